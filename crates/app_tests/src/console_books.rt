@@ -142,7 +142,8 @@ pub(crate) fn one_lease(alloc: Global, is_given_back: bool) -> Result<BookView, 
     });
     lists.apply(Event::Take { client: 1 });
     if is_given_back {
-        lists.apply(Event::GiveBack { link: 1 });
+        let shop_of_ann = key(alloc, b"shop", b"ann")?;
+        lists.apply_return(1, &shop_of_ann, 0);
     }
     lists.view(alloc)
 }

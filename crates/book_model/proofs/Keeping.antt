@@ -8,19 +8,21 @@ use Rattle.message_view.specs.declared.views.KeyView.{KeyView}
 use Rattle.session_values.specs.State.{StartKeyOf}
 use Rattle.start_keys.specs.Keys.{same_key}
 use Rattle.book_model.specs.Book.{Limits, Book, Lease, Link, Ticket, in_pool, is_client, is_fresh, is_link, is_number, is_of, is_of_client, is_of_link, lendable, link_count, places_beyond, pool_count, pool_size, waiting_before, with_number, without, without_ticket, empty_book}
-use Rattle.book_model.specs.Outcomes.{Answer, Event, apply, apply_return, arrives, asks, at_clock, cancels, closes, counted, ends_lease, evicts, gives_back, grants, hangs_up, has_waited, in_state, is_crowded, is_old, is_stale, is_started_as, is_strange, keys, kind_of, last_decision, leaves, lends, loses_ticket, outcome, starts, strikes, strikes_at, takes}
-use Rattle.book_model.specs.Outcomes.Event.{Arrive, Ask, Take, GiveBack, Lost, StartFailed, Leave, Tick, NewLimits, Pause, Resume, Shutdown, Reconnect, Keyed, Cancel, EndLease, HungUp}
-use Rattle.book_model.specs.declared.counts.Kind.TheVariants.{Arrival, ArrivalRefused, Asking, AskRefused, TicketLost, Leaving, Ticking, Limiting, Pausing, Resuming, Closing, Keying, Cancelling, LeaseEnding, HangUp, Reconnecting}
+use Rattle.book_model.specs.Outcomes.{Answer, Change, Event, apply, apply_return, arrives, asks, at_clock, cancels, closes, counted, ends_lease, evicts, gives_back, grants, hangs_up, has_waited, in_state, is_crowded, is_old, is_stale, is_started_as, is_strange, keys, kind_of, kind_of_change, last_decision, leaves, lends, loses_ticket, outcome, starts, strikes, strikes_at, takes}
+use Rattle.book_model.specs.Outcomes.Event.{Arrive, Ask, Take, GiveBack, Lost, StartFailed, Leave, Tick, Makes, Keyed, Cancel, EndLease, HungUp}
+use Rattle.book_model.specs.declared.counts.Kind.{Kind}
+use Rattle.book_model.specs.declared.counts.Kind.TheVariants.{Arrival, ArrivalRefused, Asking, AskRefused, TicketLost, Leaving, Ticking, Keying, Cancelling, LeaseEnding, HangUp}
 use Rattle.book_model.specs.declared.events.Beyond.{Beyond}
 use Rattle.book_model.specs.declared.events.Beyond.TheVariants.{Nothing, Console, LocalConsole}
 use Rattle.book_model.specs.declared.events.ClientState.TheVariants.{LoggingIn, Waiting, Active}
 use Rattle.book_model.specs.declared.limits.TheConstants.{MOST_PRESENT}
-use Rattle.book_model.specs.Kept.{FitsLimits, Kept, KeptClients, KeptLimits, LatestFreshIsLent}
+use Rattle.book_model.specs.Kept.{FitsLimits, Kept, KeptClients, KeptFresh, KeptLimits, LatestFreshIsLent}
 use Rattle.book_model.proofs.KeepingLists.{any_counts, found_any, found_counts, last_counts, none_counts, not_found}
 use Rattle.book_model.proofs.KeepingClients.{client_comes, client_goes, state_changes, ticket_comes, ticket_goes}
 use Rattle.book_model.proofs.KeepingLinks.{idle_goes, lent_goes, link_is_idle, link_is_lent, link_starts, place_left}
-use Rattle.book_model.proofs.KeepingFresh.{all_renewed, fresh_returns, idle_leaves, kept_is_fresh, latest_fresh, lendable_is, number_taken}
+use Rattle.book_model.proofs.KeepingFresh.{fresh_returns, idle_leaves, kept_is_fresh, latest_fresh, lendable_is, number_taken}
 use Rattle.book_model.proofs.KeepingLeases.{lease_ends, lease_goes, lease_is_keyed, link_is_leased, link_is_marked}
+use Rattle.book_model.proofs.Changing.{change_fits, change_fresh, change_untold, settled, with_any_settings}
 use Rattle.book_model.proofs.KeepingCounts.{arrival_counts, counts_stay, failure_counts, loss_counts, return_counts, reuse_counts, start_counts}
 
 by_branch : {A : Type 0} (P : A → Type 0) (d : Bool) (x y : A) → (d ≡ true → P x) → (d ≡ false → P y) → P (cond d x y)
@@ -285,6 +287,22 @@ ends_keeps b n known h = record {
   limits = h.limits;
 }
 
+-- ---- what is changed for all
+
+changes_keep : (b : Book) (change : Change) → FitsLimits (Makes change) → Kept b → Keeps b (Makes change) (outcome b (Makes change))
+changes_keep b change fits h =
+    with_any_settings (λ (n : Book). KeptFresh b.idle n.fresh_from b.next_link → KeptLimits n.limits → Kept (counted n (Some kind))) change b (λ limits is_paused is_shut fresh_from fresh fit. record {
+      clients = h.clients;
+      links = h.links;
+      fresh = fresh;
+      leases = h.leases;
+      counts = counts_stay kind b (settled b limits is_paused is_shut fresh_from) refl (change_untold change b.counts) refl h.counts;
+      limits = fit;
+    }) (change_fresh b change h) (change_fits b change fits h)
+  where
+    kind : Kind
+    kind = kind_of_change change
+
 -- ---- each event
 
 outcome_keeps : (b : Book) (e : Event) → FitsLimits e → is_strange b e ≡ false → Kept b → Keeps b e (outcome b e)
@@ -296,11 +314,7 @@ outcome_keeps b (Lost n) fits known h = loss_keeps b n (not_false _ known) h
 outcome_keeps b (StartFailed n) fits known h = failure_keeps b n (not_false _ known) h
 outcome_keeps b (Leave client) fits known h = leaves_keeps b client h
 outcome_keeps b (Tick now) fits known h = closes_keeps b now (find (is_stale (at_clock b now)) b.idle) h
-outcome_keeps b (NewLimits limits) fits known h = record { clients = h.clients; links = h.links; fresh = h.fresh; leases = h.leases; counts = counts_stay Limiting b (record b { limits = limits }) refl refl refl h.counts; limits = fits }
-outcome_keeps b Pause fits known h = record { clients = h.clients; links = h.links; fresh = h.fresh; leases = h.leases; counts = counts_stay Pausing b (record b { is_paused = true }) refl refl refl h.counts; limits = h.limits }
-outcome_keeps b Resume fits known h = record { clients = h.clients; links = h.links; fresh = h.fresh; leases = h.leases; counts = counts_stay Resuming b (record b { is_paused = false }) refl refl refl h.counts; limits = h.limits }
-outcome_keeps b Shutdown fits known h = record { clients = h.clients; links = h.links; fresh = h.fresh; leases = h.leases; counts = counts_stay Closing b (record b { is_shut = true }) refl refl refl h.counts; limits = h.limits }
-outcome_keeps b Reconnect fits known h = record { clients = h.clients; links = h.links; fresh = all_renewed b.lent b.idle b.next_link h.links; leases = h.leases; counts = counts_stay Reconnecting b (record b { fresh_from = b.next_link }) refl refl refl h.counts; limits = h.limits }
+outcome_keeps b (Makes change) fits known h = changes_keep b change fits h
 outcome_keeps b (Keyed n client server) fits known h = keys_keeps b n client server known h
 outcome_keeps b (Cancel client) fits known h = cancels_keeps b client (find (is_of_client client) b.keyed) h
 outcome_keeps b (EndLease n) fits known h = ends_keeps b n (not_false _ known) h

@@ -32,7 +32,7 @@ total_raised HangUp c = omega arith
 total_raised Reconnecting c = omega arith
 
 -- the counts that others depend on, and the numbers of the book that depend on them
-abbrev telling : Counts → ℕ × ℕ × ℕ × ℕ × ℕ
+abbrev pub telling : Counts → ℕ × ℕ × ℕ × ℕ × ℕ
 telling c = (c.arrived, c.granted, c.given_back, c.lost, c.starts_failed)
 
 abbrev told : Book → ℕ × ℕ × ℕ × ℕ × ℕ × ℕ × ℕ × ℕ

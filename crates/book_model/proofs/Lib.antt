@@ -5,6 +5,7 @@ pub mod KeepingLinks
 pub mod KeepingFresh
 pub mod KeepingLeases
 pub mod KeepingCounts
+pub mod Changing
 pub mod Keeping
 pub mod Reconnecting
 pub mod FirstItems

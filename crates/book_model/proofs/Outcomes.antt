@@ -15,13 +15,14 @@ use Rattle.book_model.specs.declared.counts.Kind.{Kind}
 use Rattle.book_model.specs.declared.events.Beyond.{Beyond}
 use Rattle.book_model.specs.declared.events.ClientState.TheVariants.{Waiting}
 use Rattle.book_model.specs.declared.events.Reply.{Reply}
-use Rattle.book_model.specs.Outcomes.{Answer, Event, apply, apply_return, at_clock, cancels, closes, counted, ends_lease, evicts, gives_back, grants, hangs_up, has_waited, in_state, is_crowded, is_old, is_stale, is_started_as, is_strange, kind_of, last_decision, loses_ticket, outcome, raised, starts, strikes, strikes_at, takes, waits}
-use Rattle.book_model.specs.Outcomes.Event.{Arrive, Ask, Take, GiveBack, Lost, StartFailed, Leave, Tick, NewLimits, Pause, Resume, Shutdown, Reconnect, Keyed, Cancel, EndLease, HungUp}
+use Rattle.book_model.specs.Outcomes.{Answer, Change, Event, apply, apply_return, at_clock, cancels, changed, closes, counted, ends_lease, evicts, gives_back, grants, hangs_up, has_waited, in_state, is_crowded, is_old, is_stale, is_started_as, is_strange, kind_of, last_decision, loses_ticket, outcome, raised, starts, strikes, strikes_at, takes, waits}
+use Rattle.book_model.specs.Outcomes.Event.{Arrive, Ask, Take, GiveBack, Lost, StartFailed, Leave, Tick, Makes, Keyed, Cancel, EndLease, HungUp}
 use Rattle.book_model.specs.declared.events.Reply.TheVariants.{Arrived, Queued, Lend, Start, Close, Refuse, Done, Stranger, Strike, Nobody, Reset, Dispose}
 use Rattle.book_model.specs.Laws.{AddsNothing, Drops, HasLease, HasLink, HasTicket, Keys, Lends, LendsNothing, LendsOne, MayReturn, Numbers, Queues, Releases, Starts, StartsNothing, Strikes, TakesBack}
 use Rattle.book_model.specs.Laws.{PlainEventsAddNothing, ArrivalsNumber, AsksQueue, TakesLend, TakesStart, TakesEvict, ReturnsAdd, ReturnsClose, TicksClose, HangUpsClose, KeyedKeys, CancelsStrike, ResetsRelease}
-use Rattle.book_model.specs.Laws.IsPlain.{turned_away, waits_no_more, lost, start_failed, leave, ticks, new_limits, pause, resume, shutdown, reconnect, lease_ends}
+use Rattle.book_model.specs.Laws.IsPlain.{turned_away, waits_no_more, lost, start_failed, leave, ticks, makes, lease_ends}
 use Rattle.book_model.specs.Laws.IsPlain.{waits as waits_on}
+use Rattle.book_model.proofs.Changing.{with_any_settings}
 use Rattle.book_model.proofs.KeepingFresh.{lendable_is}
 
 first_of : (a b : Bool) → (a && b) ≡ true → a ≡ true
@@ -680,6 +681,10 @@ resets_release b l e = subst (λ (s : Reply). EndFits b l s (apply b (EndLease l
 changes_little : (b : Book) (e : Event) → AnswerFits (λ r new. StartsNothing b new) (outcome b e) → StartsNothing b (apply b e).book
 changes_little b e h = applied (λ r new. StartsNothing b new) b e (unchanged b) (unchanged b) h
 
+changes_nothing : (b : Book) (change : Change) (d : ℕ) (counts : Counts) → StartsNothing b (with_counts (changed change b) d counts)
+changes_nothing b change d counts = with_any_settings (λ (n : Book). StartsNothing b (with_counts n d counts)) change b
+    (λ limits is_paused is_shut fresh_from. record { adds_nothing = record { next_client = le_refl b.next_client; idle = λ m key h. h; tickets = λ u key h. h }; next_link = refl; lends_nothing = lends_nothing b _ refl refl refl })
+
 pub plain_events_add_nothing : PlainEventsAddNothing
 unfolding TakeFits TickFits ArriveFits AnswerFits
 plain_events_add_nothing b (Arrive beyond) _ (turned_away {refusal = n}) q = arrive_of b beyond (Refuse n) q
@@ -689,11 +694,7 @@ plain_events_add_nothing b (Tick now) _ ticks q = tick_of b now Done q
 plain_events_add_nothing b (Lost n) r lost q = changes_little b (Lost n) (λ d counts. record { adds_nothing = record { next_client = le_refl b.next_client; idle = λ m key h. h; tickets = λ u key h. h }; next_link = refl; lends_nothing = loses_link n b _ refl refl refl })
 plain_events_add_nothing b (StartFailed n) r start_failed q = changes_little b (StartFailed n) (λ d counts. record { adds_nothing = record { next_client = le_refl b.next_client; idle = λ m key h. h; tickets = λ u key h. h }; next_link = refl; lends_nothing = loses_link n b _ refl refl refl })
 plain_events_add_nothing b (Leave c) r leave q = changes_little b (Leave c) (λ d counts. record { adds_nothing = record { next_client = le_refl b.next_client; idle = λ m key h. h; tickets = λ u key h. tickets_keep c u key b.tickets h }; next_link = refl; lends_nothing = lends_nothing b _ refl refl refl })
-plain_events_add_nothing b (NewLimits limits) r new_limits q = changes_little b (NewLimits limits) (λ d counts. record { adds_nothing = record { next_client = le_refl b.next_client; idle = λ m key h. h; tickets = λ u key h. h }; next_link = refl; lends_nothing = lends_nothing b _ refl refl refl })
-plain_events_add_nothing b Pause r pause q = changes_little b Pause (λ d counts. record { adds_nothing = record { next_client = le_refl b.next_client; idle = λ m key h. h; tickets = λ u key h. h }; next_link = refl; lends_nothing = lends_nothing b _ refl refl refl })
-plain_events_add_nothing b Resume r resume q = changes_little b Resume (λ d counts. record { adds_nothing = record { next_client = le_refl b.next_client; idle = λ m key h. h; tickets = λ u key h. h }; next_link = refl; lends_nothing = lends_nothing b _ refl refl refl })
-plain_events_add_nothing b Shutdown r shutdown q = changes_little b Shutdown (λ d counts. record { adds_nothing = record { next_client = le_refl b.next_client; idle = λ m key h. h; tickets = λ u key h. h }; next_link = refl; lends_nothing = lends_nothing b _ refl refl refl })
-plain_events_add_nothing b Reconnect r reconnect q = changes_little b Reconnect (λ d counts. record { adds_nothing = record { next_client = le_refl b.next_client; idle = λ m key h. h; tickets = λ u key h. h }; next_link = refl; lends_nothing = lends_nothing b _ refl refl refl })
+plain_events_add_nothing b (Makes change) r makes q = changes_little b (Makes change) (λ d counts. changes_nothing b change d counts)
 plain_events_add_nothing b (EndLease n) r lease_ends q = changes_little b (EndLease n) (λ d counts. ends_nothing b n d counts)
 plain_events_add_nothing b (Keyed n client server) r p q = elim p [ ]
 plain_events_add_nothing b (Cancel client) r p q = elim p [ ]

@@ -6,8 +6,9 @@ use Rattle.message_view.specs.declared.refusal.Refusal.TheVariants.{LastDecision
 use Rattle.session_values.specs.State.{StartKeyOf}
 use Rattle.book_model.specs.Book.{Book, Lease, Link, Ticket, in_pool, is_fresh, is_link, is_of, is_of_client, lendable, link_count, pool_count, pool_size, waiting_before}
 use Rattle.book_model.specs.Kept.{Kept}
-use Rattle.book_model.specs.Outcomes.{Answer, Event, apply, apply_return, at_clock, cancels, closes, counted, decided, evicts, gives_back, grants, hangs_up, has_waited, is_crowded, is_old, is_stale, is_started_as, is_strange, kind_of, last_decision, outcome, strikes, strikes_at, takes}
-use Rattle.book_model.specs.Outcomes.Event.{Arrive, Ask, Take, GiveBack, Lost, StartFailed, Leave, Tick, NewLimits, Pause, Resume, Shutdown, Reconnect, Keyed, Cancel, EndLease, HungUp}
+use Rattle.book_model.specs.Outcomes.{Answer, Change, Event, apply, apply_return, at_clock, cancels, changed, closes, counted, decided, evicts, gives_back, grants, hangs_up, has_waited, is_crowded, is_old, is_stale, is_started_as, is_strange, kind_of, last_decision, outcome, strikes, strikes_at, takes}
+use Rattle.book_model.specs.Outcomes.Change.{Reconnect}
+use Rattle.book_model.specs.Outcomes.Event.{Arrive, Ask, Take, GiveBack, Lost, StartFailed, Leave, Tick, Makes, Keyed, Cancel, EndLease, HungUp}
 use Rattle.book_model.specs.Reconnects.{AllFit, NeverKeptAgain, NeverLentAgain, after}
 use Rattle.book_model.specs.declared.counts.Kind.{Kind}
 use Rattle.book_model.specs.declared.events.Reply.TheVariants.{Lend, Refuse, Done}
@@ -134,6 +135,10 @@ cancels_grow : (b : Book) (o : Option Lease) → Grows b (cancels b o)
 cancels_grow b None = le_refl b.fresh_from
 cancels_grow b (Some lease) = strikes_at_grow b lease (find (is_link lease.link) b.lent)
 
+changes_grow : (b : Book) (change : Change) → Kept b → b.fresh_from ≤ (changed change b).fresh_from
+changes_grow b Reconnect h = h.fresh.next_too
+changes_grow b _ h = le_refl b.fresh_from
+
 outcome_grows : (b : Book) (e : Event) → Kept b → Grows b (outcome b e)
 outcome_grows b (Arrive beyond) h =
     both (Grows b) b.is_shut _ _ (le_refl b.fresh_from)
@@ -142,16 +147,12 @@ outcome_grows b (Ask client key) h = both (Grows b) b.is_shut _ _ (le_refl b.fre
 outcome_grows b (Take client) h = takes_grow b (find (is_of client) b.tickets)
 outcome_grows b (GiveBack n) h = gives_grow b (find (is_link n) b.lent)
 outcome_grows b (Tick now) h = closes_grow b now (find (is_stale (at_clock b now)) b.idle)
-outcome_grows b Reconnect h = h.fresh.next_too
+outcome_grows b (Makes change) h = changes_grow b change h
 outcome_grows b (Cancel client) h = cancels_grow b (find (is_of_client client) b.keyed)
 outcome_grows b (HungUp n) h = hangs_up_grow b (find (is_link n) b.idle)
 outcome_grows b (Lost n) h = le_refl b.fresh_from
 outcome_grows b (StartFailed n) h = le_refl b.fresh_from
 outcome_grows b (Leave client) h = le_refl b.fresh_from
-outcome_grows b (NewLimits limits) h = le_refl b.fresh_from
-outcome_grows b Pause h = le_refl b.fresh_from
-outcome_grows b Resume h = le_refl b.fresh_from
-outcome_grows b Shutdown h = le_refl b.fresh_from
 outcome_grows b (Keyed n client server) h = le_refl b.fresh_from
 outcome_grows b (EndLease n) h = le_refl b.fresh_from
 
@@ -174,22 +175,22 @@ after_all first b (e ∷ es) h fits low = after_all first (apply b e).book es (a
 
 -- ---- behind a Reconnect
 
-renews : (b : Book) → (apply b Reconnect).reply ≡ Done → (apply b Reconnect).book.fresh_from ≡ b.next_link
+renews : (b : Book) → (apply b (Makes Reconnect)).reply ≡ Done → (apply b (Makes Reconnect)).book.fresh_from ≡ b.next_link
 unfolding apply
 renews b e = go (b.decisions == last_decision) e
   where
-    go : (last : Bool) → (cond {A = Answer} last (record { book = b; reply = Refuse LastDecision }) (decided b Reconnect (outcome b Reconnect))).reply ≡ Done
-        → (cond {A = Answer} last (record { book = b; reply = Refuse LastDecision }) (decided b Reconnect (outcome b Reconnect))).book.fresh_from ≡ b.next_link
+    go : (last : Bool) → (cond {A = Answer} last (record { book = b; reply = Refuse LastDecision }) (decided b (Makes Reconnect) (outcome b (Makes Reconnect)))).reply ≡ Done
+        → (cond {A = Answer} last (record { book = b; reply = Refuse LastDecision }) (decided b (Makes Reconnect) (outcome b (Makes Reconnect)))).book.fresh_from ≡ b.next_link
     go true f = absurd (cc)
     go false f = refl
 
-renewed : (b : Book) (es : List Event) → Kept b → AllFit es → (apply b Reconnect).reply ≡ Done → b.next_link ≤ (after (apply b Reconnect).book es).fresh_from
-renewed b es h fits done = after_all b.next_link (apply b Reconnect).book es (applied_keeps b Reconnect tt h) fits (le_of_eq (sym (renews b done)))
+renewed : (b : Book) (es : List Event) → Kept b → AllFit es → (apply b (Makes Reconnect)).reply ≡ Done → b.next_link ≤ (after (apply b (Makes Reconnect)).book es).fresh_from
+renewed b es h fits done = after_all b.next_link (apply b (Makes Reconnect)).book es (applied_keeps b (Makes Reconnect) tt h) fits (le_of_eq (sym (renews b done)))
 
 pub never_lent : NeverLentAgain
 never_lent b es client link h fits done below lent =
-    omega (arith, below, renewed b es h fits done, lends_fresh (after (apply b Reconnect).book es) client link lent)
+    omega (arith, below, renewed b es h fits done, lends_fresh (after (apply b (Makes Reconnect)).book es) client link lent)
 
 pub never_kept : NeverKeptAgain
 never_kept b es link key born h fits done below back =
-    omega (arith, below, renewed b es h fits done, keeps_fresh (after (apply b Reconnect).book es) link key born back)
+    omega (arith, below, renewed b es h fits done, keeps_fresh (after (apply b (Makes Reconnect)).book es) link key born back)

@@ -4,7 +4,7 @@ use Rattle.std.specs.Prelude.{find, nat_lt}
 use Rattle.std.specs.List.{list_any}
 use Rattle.book_model.specs.Book.{Book, Client, Lease, Link, Ticket, in_pool, is_client, is_link, is_number, is_of, is_of_client, is_of_link, lendable, link_count, places_beyond, pool_count, pool_size, waiting_before}
 use Rattle.book_model.specs.Outcomes.{Answer, Event, apply, at_clock, cancels, closes, counted, decided, evicts, gives_back, grants, hangs_up, has_waited, is_crowded, is_old, is_stale, is_strange, kind_of, last_decision, outcome, strikes, strikes_at, takes}
-use Rattle.book_model.specs.Outcomes.Event.{Arrive, Ask, Take, GiveBack, Lost, StartFailed, Leave, Tick, NewLimits, Pause, Resume, Shutdown, Reconnect, Keyed, Cancel, EndLease, HungUp}
+use Rattle.book_model.specs.Outcomes.Event.{Arrive, Ask, Take, GiveBack, Lost, StartFailed, Leave, Tick, Makes, Keyed, Cancel, EndLease, HungUp}
 use Rattle.book_model.specs.declared.counts.Kind.{Kind}
 use Rattle.book_model.specs.declared.events.Reply.{Reply}
 use Rattle.book_model.specs.declared.events.Reply.TheVariants.{Refuse, Done, Stranger}
@@ -14,6 +14,7 @@ use Rattle.book_register.specs.Kinds.{kind_in, kinds_of}
 use Rattle.book_register.specs.declared.deciding.Kinds.{Kinds}
 use Rattle.book_model.specs.Kept.{Kept, KeptClients, KeptCounts, total}
 use Rattle.book_model.specs.declared.limits.TheConstants.{MOST_LINKS}
+use Rattle.book_model.proofs.Changing.{with_any_settings}
 use Rattle.book_model.proofs.KeepingLists.{any_counts, longer, none_counts}
 
 pub kind_is : (b : Book) (e : Event) (r : Reply) → kind_in (kinds_of b e) r ≡ kind_of b e r
@@ -25,11 +26,7 @@ kind_is b (Lost n) r = elim r as (λ x. kind_in (kinds_of b (Lost n)) x ≡ kind
 kind_is b (StartFailed n) r = elim r as (λ x. kind_in (kinds_of b (StartFailed n)) x ≡ kind_of b (StartFailed n) x) [ Done ↦ refl | _ ↦ refl ]
 kind_is b (Leave client) r = elim r as (λ x. kind_in (kinds_of b (Leave client)) x ≡ kind_of b (Leave client) x) [ Done ↦ refl | _ ↦ refl ]
 kind_is b (Tick now) r = elim r as (λ x. kind_in (kinds_of b (Tick now)) x ≡ kind_of b (Tick now) x) [ Done ↦ refl | _ ↦ refl ]
-kind_is b (NewLimits limits) r = elim r as (λ x. kind_in (kinds_of b (NewLimits limits)) x ≡ kind_of b (NewLimits limits) x) [ Done ↦ refl | _ ↦ refl ]
-kind_is b Pause r = elim r as (λ x. kind_in (kinds_of b Pause) x ≡ kind_of b Pause x) [ Done ↦ refl | _ ↦ refl ]
-kind_is b Resume r = elim r as (λ x. kind_in (kinds_of b Resume) x ≡ kind_of b Resume x) [ Done ↦ refl | _ ↦ refl ]
-kind_is b Shutdown r = elim r as (λ x. kind_in (kinds_of b Shutdown) x ≡ kind_of b Shutdown x) [ Done ↦ refl | _ ↦ refl ]
-kind_is b Reconnect r = elim r as (λ x. kind_in (kinds_of b Reconnect) x ≡ kind_of b Reconnect x) [ Done ↦ refl | _ ↦ refl ]
+kind_is b (Makes change) r = elim r as (λ x. kind_in (kinds_of b (Makes change)) x ≡ kind_of b (Makes change) x) [ Done ↦ refl | _ ↦ refl ]
 kind_is b (Keyed n client server) r = elim r as (λ x. kind_in (kinds_of b (Keyed n client server)) x ≡ kind_of b (Keyed n client server) x) [ Done ↦ refl | _ ↦ refl ]
 kind_is b (Cancel client) r = elim r as (λ x. kind_in (kinds_of b (Cancel client)) x ≡ kind_of b (Cancel client) x) [ Done ↦ refl | _ ↦ refl ]
 kind_is b (EndLease n) r = elim r as (λ x. kind_in (kinds_of b (EndLease n)) x ≡ kind_of b (EndLease n) x) [ Done ↦ refl | _ ↦ refl ]
@@ -105,11 +102,7 @@ uncounted b (Lost n) = plain refl refl
 uncounted b (StartFailed n) = plain refl refl
 uncounted b (Leave client) = plain refl refl
 uncounted b (Tick now) = closes_uncounted b now (find (is_stale (at_clock b now)) b.idle)
-uncounted b (NewLimits limits) = plain refl refl
-uncounted b Pause = plain refl refl
-uncounted b Resume = plain refl refl
-uncounted b Shutdown = plain refl refl
-uncounted b Reconnect = plain refl refl
+uncounted b (Makes change) = with_any_settings (λ (n : Book). Uncounted b (record { book = n; reply = Done })) change b (λ limits is_paused is_shut fresh_from. plain refl refl)
 uncounted b (Keyed n client server) = plain refl refl
 uncounted b (Cancel client) = cancels_uncounted b (find (is_of_client client) b.keyed)
 uncounted b (EndLease n) = plain refl refl

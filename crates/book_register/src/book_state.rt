@@ -6,6 +6,7 @@ ghost use Rattle.std.specs.List.{list_any};
 ghost use Rattle.start_keys.specs.Keys.{same_key};
 ghost use Rattle.book_model.specs.Book as book;
 ghost use Rattle.book_model.specs.Book.{Ticket as TicketRow};
+ghost use Rattle.book_model.specs.Events.{change_of};
 ghost use Rattle.book_model.specs.Outcomes as outcome;
 ghost use Rattle.book_model.specs.declared.events.Reply.TheVariants.{Done, Refuse};
 ghost use Rattle.book_model.specs.declared.limits.TheConstants.{MOST_LINKS};
@@ -16,7 +17,7 @@ ghost use Rattle.numbered_rows.specs.Places.{passes};
 ghost use Rattle.book_model.specs.Kept.{Kept};
 
 use book_model::counts::Counts;
-use book_model::events::{Beyond, ClientState, Event, Reply};
+use book_model::events::{Beyond, Change, ClientState, Reply};
 use book_model::limits::Limits;
 use book_rows::clients::{Client, Clients};
 use book_rows::leases::{Lease, Leases, Numbers};
@@ -568,49 +569,19 @@ impl BookState {
         }
     }
 
-    /// These settings hold from now on.
-    pub(crate) fn keeps_to(&mut self, limits: Arc<Limits>) -> Reply
-        ensures book { self.new ≡ record self.old { limits = arc_value limits } }
-        ensures reply { result ≡ Done }
-    {
-        self.limits = limits;
-        Reply::Done
-    }
-
-    /// No link is lent until `resumes`.
-    pub(crate) fn pauses(&mut self) -> Reply
-        ensures book { self.new ≡ record self.old { is_paused = true } }
-        ensures reply { result ≡ Done }
-    {
-        self.is_paused = true;
-        Reply::Done
-    }
-
-    /// Links are lent again.
-    pub(crate) fn resumes(&mut self) -> Reply
-        ensures book { self.new ≡ record self.old { is_paused = false } }
-        ensures reply { result ≡ Done }
-    {
-        self.is_paused = false;
-        Reply::Done
-    }
-
-    /// No client is let in and no link lent any more.
-    pub(crate) fn shuts_down(&mut self) -> Reply
-        ensures book { self.new ≡ record self.old { is_shut = true } }
-        ensures reply { result ≡ Done }
-    {
-        self.is_shut = true;
-        Reply::Done
-    }
-
-    /// No link that is there now is lent again.
-    pub(crate) fn reconnects(&mut self) -> Reply
+    /// This is changed for all from now on.
+    pub(crate) fn changes(&mut self, change: Change) -> Reply
         requires next { self.old.next_link ≤ outcome.last_decision }
-        ensures book { self.new ≡ record self.old { fresh_from = self.old.next_link } }
+        ensures book { self.new ≡ outcome.changed (change_of change) self.old }
         ensures reply { result ≡ Done }
     {
-        self.fresh_from = self.last_link + 1;
+        match change {
+            Change::Limits(limits) => self.limits = limits,
+            Change::Pause => self.is_paused = true,
+            Change::Resume => self.is_paused = false,
+            Change::Shutdown => self.is_shut = true,
+            Change::Reconnect => self.fresh_from = self.last_link + 1,
+        }
         Reply::Done
     }
 

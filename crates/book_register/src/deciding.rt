@@ -2,7 +2,8 @@
 ghost use Rattle.std.specs.Prelude.{◌≡◌, ◌<◌, ◌||◌, Some, None, cond, false};
 ghost use Rattle.std.specs.List.{list_any};
 ghost use Rattle.book_model.specs.Book as book;
-ghost use Rattle.book_model.specs.Events.{event_of};
+ghost use Rattle.book_model.specs.Events.{change_of, event_of};
+ghost use Rattle.book_model.specs.Outcomes.Event.{Makes};
 ghost use Rattle.book_model.specs.Outcomes as outcome;
 ghost use Rattle.book_register.specs.Choices.{Gives};
 ghost use Rattle.book_model.specs.declared.counts.Kind.TheVariants.{Ticking};
@@ -12,7 +13,7 @@ ghost use Rattle.book_model.specs.Kept.{FitsLimits, Kept, total};
 use crate::beginning::fits;
 use crate::book_state::BookState;
 use book_model::counts::{Counts, Kind};
-use book_model::events::{Event, Reply};
+use book_model::events::{Change, Event, Reply};
 use message_view::Refusal;
 use start_keys::StartKey;
 
@@ -100,12 +101,35 @@ fn ticking(is_later: bool) -> Option<Kind>
     if is_later { Some(Kind::Ticking) } else { None }
 }
 
+/// What is changed for all is of this kind.
+fn kind_of_change(change: &Change) -> Kind
+    ensures { result ≡ outcome.kind_of_change (change_of change.now) }
+{
+    match change {
+        Change::Limits(_) => Kind::Limiting,
+        Change::Pause => Kind::Pausing,
+        Change::Resume => Kind::Resuming,
+        Change::Shutdown => Kind::Closing,
+        Change::Reconnect => Kind::Reconnecting,
+    }
+}
+
+/// New settings fit.
+fn change_fits(change: &Change)
+    ensures { FitsLimits (Makes (change_of change.now)) }
+{
+    match change {
+        Change::Limits(limits) => fits(limits),
+        _ => {}
+    }
+}
+
 /// The settings of an event fit.
 fn event_fits(event: &Event)
     ensures { FitsLimits (event_of event.now) }
 {
     match event {
-        Event::Limits(limits) => fits(limits),
+        Event::Change(change) => change_fits(change),
         _ => {}
     }
 }
@@ -146,7 +170,9 @@ impl BookState {
         if !self.is_lent_as(number, key, born) {
             return Reply::Stranger;
         }
-        self.apply(Event::GiveBack { link: number })
+        let reply = self.gives_back(number);
+        self.count(Kind::Return);
+        reply
     }
 
     /// Whether the event's client or link isn't there, it has a ticket already, or the lease was keyed or has ended.
@@ -157,7 +183,6 @@ impl BookState {
         match event {
             Event::Ask { client, .. } => { !self.clients.has(*client) || self.tickets.has(*client) }
             Event::Take { client } => !self.tickets.has(*client),
-            Event::GiveBack { link } => !self.lent.has(*link),
             Event::Lost { link } => !self.lent.has(*link),
             Event::StartFailed { link } => !self.lent.has(*link),
             Event::Leave { client } => !self.clients.has(*client),
@@ -192,7 +217,6 @@ impl BookState {
                 queued: None,
                 ..Kinds::all(Kind::Grant)
             },
-            Event::GiveBack { .. } => Kinds::all(Kind::Return),
             Event::Lost { .. } => Kinds::all(Kind::Loss),
             Event::StartFailed { .. } => Kinds::all(Kind::FailedStart),
             Event::Leave { .. } => Kinds::all(Kind::Leaving),
@@ -200,11 +224,7 @@ impl BookState {
                 done: ticking(self.clock < *now),
                 ..Kinds::all(Kind::Ticking)
             },
-            Event::Limits(_) => Kinds::all(Kind::Limiting),
-            Event::Pause => Kinds::all(Kind::Pausing),
-            Event::Resume => Kinds::all(Kind::Resuming),
-            Event::Shutdown => Kinds::all(Kind::Closing),
-            Event::Reconnect => Kinds::all(Kind::Reconnecting),
+            Event::Change(change) => Kinds::all(kind_of_change(change)),
             Event::Keyed { .. } => Kinds::all(Kind::Keying),
             Event::Cancel { .. } => Kinds::of_found(Kind::Cancelling),
             Event::EndLease { .. } => Kinds::all(Kind::LeaseEnding),
@@ -223,16 +243,11 @@ impl BookState {
             Event::Arrive { beyond } => self.arrives(beyond),
             Event::Ask { client, key } => self.asks(client, key),
             Event::Take { client } => self.takes(client),
-            Event::GiveBack { link } => self.gives_back(link),
             Event::Lost { link } => self.loses(link),
             Event::StartFailed { link } => self.loses(link),
             Event::Leave { client } => self.leaves(client),
             Event::Tick { now } => self.ticks(now),
-            Event::Limits(limits) => self.keeps_to(limits),
-            Event::Pause => self.pauses(),
-            Event::Resume => self.resumes(),
-            Event::Shutdown => self.shuts_down(),
-            Event::Reconnect => self.reconnects(),
+            Event::Change(change) => self.changes(change),
             Event::Keyed {
                 link,
                 client,

@@ -12,5 +12,5 @@ asks-requires-clause-room c = asker_has_room c.args.self.now.clients c.args.self
 pub keys-requires : goal.keys-requires
 keys-requires c = record { room = lease_has_room c.args.self.now c.in-Keyed.link c.requires.kept (subst (λ (e : Event). is_strange c.args.self.now (event_of e) ≡ false) c.in-Keyed.is c.requires.known) }
 
-pub reconnects-requires : goal.reconnects-requires
-reconnects-requires c = record { next = (may_start c.args.self.now c.requires.kept c.requires.more).1 }
+pub changes-requires : goal.changes-requires
+changes-requires c = record { next = (may_start c.args.self.now c.requires.kept c.requires.more).1 }

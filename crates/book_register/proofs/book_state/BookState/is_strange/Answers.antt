@@ -16,9 +16,6 @@ has-requires-in-Take c = let P : Book → Type 0 = λ b. (n : ℕ) → count_by 
 pub has-requires-in-Leave : goal.has-requires-in-Leave
 has-requires-in-Leave c = let P : Book → Type 0 = λ b. (n : ℕ) → count_by (is_client n) b.clients ≤ 1 in record { once = subst P (sym c.self.view_is) c.requires.kept.clients.once }
 
-pub has-requires-in-GiveBack : goal.has-requires-in-GiveBack
-has-requires-in-GiveBack c = let P : Book → Type 0 = λ b. (n : ℕ) → count_by (is_link n) b.lent ≤ 1 in record { once = subst P (sym c.self.view_is) (one_lent _ _ _ c.requires.kept.links) }
-
 pub has-requires-in-Lost : goal.has-requires-in-Lost
 has-requires-in-Lost c = let P : Book → Type 0 = λ b. (n : ℕ) → count_by (is_link n) b.lent ≤ 1 in record { once = subst P (sym c.self.view_is) (one_lent _ _ _ c.requires.kept.links) }
 
