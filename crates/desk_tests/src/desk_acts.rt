@@ -345,8 +345,7 @@ fn keeps_to<R: Wait + Clock, K: Ledgers>(
     settings: Settings,
 ) -> Result<Says, AllocError> {
     let limits = limits(alloc, settings)?;
-    let again = Arc::try_clone(&limits)?;
-    Ok(Says::from(desk.limits(pass, limits, again)))
+    Ok(Says::from(desk.limits(pass, limits)))
 }
 
 /// What the desk answers; nobody, where the call is none of the pass's.

@@ -127,8 +127,7 @@ impl Act {
             }
             Act::Pools(size) => {
                 let limits = limits(alloc, 100, size)?;
-                let again = Arc::try_clone(&limits)?;
-                Ok(is_done(desk.limits(pass, limits, again)))
+                Ok(is_done(desk.limits(pass, limits)))
             }
             Act::Shutdown => Ok(is_done(desk.shutdown(pass))),
             Act::Cancel(number) => {
