@@ -13,7 +13,7 @@ use message_view::{KeyView, Refusal};
 use pool_desk::answers::{Changed, HungUp, Ticked};
 use std::alloc::{AllocError, Global};
 use std::rt::Clock;
-use std::sync::{Arc, Wait};
+use std::sync::Wait;
 
 /// A call through a pass.
 #[derive(Clone, Copy, Drop)]

@@ -13,7 +13,7 @@ use pool_tests::worker_parts::{TestRuntime, key, limits};
 use std::alloc::{AllocError, Global};
 use std::rt::Clock;
 use std::sync::atomic::{AtomicBool, Ordering};
-use std::sync::{Arc, Wait};
+use std::sync::Wait;
 use std::thread::sleep;
 use std::time::Duration;
 
