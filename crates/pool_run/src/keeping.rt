@@ -163,16 +163,18 @@ impl Drop for Underived {
     }
 }
 
+/// The limits of these settings, which are shared.
+fn shared_limits(alloc: Global, settings: &Settings) -> Result<Arc<Limits>, AllocError>
+    requires { AreWithinBounds settings.now }
+{
+    Ok(Arc::new(alloc, limits_of(alloc, settings)?)?)
+}
+
 /// What the files said when they were read again: the settings' limits, and what is to hold for later clients.
+#[derive(Drop)]
 struct Reread {
     limits: Arc<Limits>,
     kept: Kept,
-}
-
-impl Drop for Reread {
-    fn drop(self) {
-        let Reread { limits: _, kept: _ } = self;
-    }
 }
 
 /// The settings and users of later clients, behind a lock under which no other is taken, and where they are read again.
@@ -284,7 +286,7 @@ impl<R: Wait, F: Source> Keeper<R, F> {
     /// that an allocation failed.
     fn read(&self) -> Result<Reread, Unread> {
         let (settings, table) = self.source.read()?;
-        let limits = Arc::new(self.alloc, limits_of(self.alloc, &settings)?)?;
+        let limits = shared_limits(self.alloc, &settings)?;
         let users = Users::new(table, self.salts);
         let earlier = self.underived()?;
         let kept = Kept::new(self.alloc, settings, users, earlier.reloads.wrapping_add(1))?;
