@@ -27,14 +27,16 @@ fn came_to(changed: Changed) -> Acted
     }
 }
 
-/// Reads the files again, and keeps the book to their limits.
+/// Reads the files again, and keeps the book to their limits; only where the book does so the files hold.
 fn reload<D: LinkDesk>(desk: &D, pass: &mut D::Pass) -> Acted
     ensures { HasActed result Reload (pass_of (D.told pass.old) (D.holder pass.old)) (pass_of (D.told pass.new) (D.holder pass.new)) }
 {
-    match desk.reload() {
-        Some((limits, again)) => came_to(desk.limits(pass, limits, again)),
-        None => Acted::Faulty,
-    }
+    let Some(limits) = desk.reload() else {
+        return Acted::Faulty;
+    };
+    let changed = desk.limits(pass, limits);
+    desk.settle(pass, changed);
+    came_to(changed)
 }
 
 /// Does what the console was asked to.

@@ -1,5 +1,5 @@
 -- What a pass tells: the decisions that were made through it, by class, and who holds it.
-use Rattle.std.specs.Prelude.{ℕ, suc, Bool, true, false, Option, Some, None, option_map}
+use Rattle.std.specs.Prelude.{◌≡◌, ℕ, suc, Bool, true, false, Option, Some, None, option_map}
 use Rattle.message_view.specs.declared.refusal.Refusal.{Refusal}
 use Rattle.book_model.specs.declared.events.Beyond.{Beyond}
 use Rattle.message_view.specs.declared.views.KeyView.{KeyView}
@@ -134,6 +134,10 @@ after_leaving p gone.Stranger = broken p
 abbrev pub after_change : PassOf → Changed → PassOf
 after_change p changed.Done = one_other p
 after_change p changed.Last = broken p
+
+-- the last call that was made through it, which changed something for all, was answered so
+abbrev pub IsAfterChange : Changed → PassOf → Type 0
+IsAfterChange changed p = (before : PassOf) × (p ≡ after_change before changed)
 
 -- ---- what each call makes of its holder; what goes to the book is the holder's own
 

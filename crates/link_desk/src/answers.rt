@@ -122,7 +122,7 @@ pub enum Cancelled {
     Last,
 }
 
-/// To new limits, Pause, Resume and Shutdown.
+/// To what is changed for all.
 #[derive(Clone, Copy, Drop)]
 pub enum Changed {
     Done,

@@ -1,6 +1,5 @@
 //! A desk that lends links.
 ghost use Rattle.std.specs.Prelude.{◌≡◌, IfOk, IfSome, IsSome, MatchOption, None, Some, false, true};
-ghost use Rattle.std.specs.Arc.{arc_value};
 ghost use Rattle.session_values.specs.State.{address_of};
 ghost use Rattle.book_model.specs.Book.{Book};
 ghost use Rattle.book_model.specs.Kept.{Kept};
@@ -14,7 +13,7 @@ ghost use Rattle.link_desk.specs.Homes.{IsAtHome, IsDialled, IsGrantAtHome};
 ghost use Rattle.link_desk.specs.declared.calls.Call.TheVariants.{GiveBack, Lost, StartFailed};
 ghost use Rattle.link_desk.specs.declared.calls.Call.TheVariants as call;
 ghost use Rattle.link_desk.specs.declared.calls.Stage.TheVariants.{Granted};
-ghost use Rattle.link_desk.specs.Passes.{after_arrival, after_asking, after_back, after_cancel, after_change, after_grant, after_keying, after_leaving, after_loss, after_release, arrived, asked_by, cancelling, ended_lease, is_open, keeps, keyed_lease, left, released, stage_of, striking, taken, without_lease};
+ghost use Rattle.link_desk.specs.Passes.{IsAfterChange, after_arrival, after_asking, after_back, after_cancel, after_change, after_grant, after_keying, after_leaving, after_loss, after_release, arrived, asked_by, cancelling, ended_lease, is_open, keeps, keyed_lease, left, released, stage_of, striking, taken, without_lease};
 ghost use Rattle.link_desk.specs.Refusing.{MayArrive, MayAsk, MayTake};
 
 use crate::answers::{
@@ -203,16 +202,21 @@ pub trait LinkDesk {
         ensures told { told pass.new ≡ after_change (told pass.old) result }
         ensures holder { holder pass.new ≡ record (holder pass.old) { last = Some call.Reconnect } };
 
-    /// These limits hold from now on. They come twice: the book keeps the one, its history the other.
-    fn limits(&self, pass: &mut Self::Pass, limits: Arc<Limits>, again: Arc<Limits>) -> Changed
-        requires twice { arc_value again ≡ arc_value limits }
+    /// These limits hold from now on.
+    fn limits(&self, pass: &mut Self::Pass, limits: Arc<Limits>) -> Changed
         ensures told { told pass.new ≡ after_change (told pass.old) result }
         ensures holder { holder pass.new ≡ record (holder pass.old) { last = Some call.Limits } };
 
-    /// Reads the files of settings and users again, and keeps them for later clients; the limits of the settings, twice. `None` where
-    /// a file has a fault or memory is refused: nothing is kept then.
-    fn reload(&self) -> Option<(Arc<Limits>, Arc<Limits>)>
-        ensures { IfSome result (λ p. arc_value p.1 ≡ arc_value p.0) };
+    /// Reads the files of settings and users again, once no earlier reading of them is unsettled: the limits of the settings. Nothing of
+    /// what was read holds before [`LinkDesk::settle`], which is to follow. `None` where a file has a fault or memory is refused, and then
+    /// nothing is unsettled.
+    fn reload(&self) -> Option<Arc<Limits>>;
+
+    /// The limits that were read were answered so, by the pass's last call. Where the book keeps them, all that was read holds for later
+    /// clients from now on, and the log is told so; else it is forgotten.
+    fn settle(&self, pass: &Self::Pass, changed: Changed)
+        requires limits { (holder pass.now).last ≡ Some call.Limits }
+        requires answered { IsAfterChange changed (told pass.now) };
 
     /// Tells the log. It waits for no reader of it.
     fn note(&self, client: &Client<'_>, note: &Note<'_>);

@@ -11,13 +11,14 @@ use book_model::limits::Limits;
 use book_model::settings::limits_of;
 use ini_config::{AuthType, Settings};
 use keep_alive::Keepalive;
+use link_desk::answers::Changed;
 use log_lines::notes::Note;
 use login_core::Login;
-use message_view::KeyWord;
+use message_view::{KeyWord, Refusal};
 use std::alloc::{AllocError, Global};
 use std::marker::Model;
 use std::rt::Clock;
-use std::sync::{Arc, Condvar, Mutex, Wait};
+use std::sync::{Arc, Condvar, Mutex, MutexGuard, Wait};
 use user_file::{UserTable, Users};
 
 /// Why files aren't read again.
@@ -162,24 +163,29 @@ impl Drop for Underived {
     }
 }
 
-/// The limits of these settings, twice.
-fn limits_twice(
-    alloc: Global,
-    settings: &Settings,
-) -> Result<(Arc<Limits>, Arc<Limits>), AllocError>
+/// The limits of these settings, which are shared.
+fn shared_limits(alloc: Global, settings: &Settings) -> Result<Arc<Limits>, AllocError>
     requires { AreWithinBounds settings.now }
-    ensures { IfOk result (λ p. arc_value p.1 ≡ arc_value p.0) }
 {
-    let limits = Arc::new(alloc, limits_of(alloc, settings)?)?;
-    let again = Arc::try_clone(&limits)?;
-    Ok((limits, again))
+    Ok(Arc::new(alloc, limits_of(alloc, settings)?)?)
+}
+
+/// What the files said when they were read again: the settings' limits, and what is to hold for later clients.
+#[derive(Drop)]
+struct Reread {
+    limits: Arc<Limits>,
+    kept: Kept,
 }
 
 /// The settings and users of later clients, behind a lock under which no other is taken, and where they are read again.
-pub(crate) struct Keeper<R, F: Source> {
+pub struct Keeper<R, F: Source> {
     rt: R,
     alloc: Global,
     kept: Mutex<Kept>,
+    /// What was read again, until the book's answer to its limits is known. This lock is taken before that of what is kept.
+    unsettled: Mutex<Option<Kept>>,
+    /// Nothing is unsettled any more.
+    settled: Condvar,
     /// The settings of the start.
     at_start: Arc<Settings>,
     /// Other settings and users came, or the pool has ended.
@@ -195,6 +201,8 @@ impl<R: Drop, F: Source> Drop for Keeper<R, F> {
             rt: _,
             alloc: _,
             kept: _,
+            unsettled: _,
+            settled: _,
             at_start: _,
             changed: _,
             salts: _,
@@ -205,7 +213,7 @@ impl<R: Drop, F: Source> Drop for Keeper<R, F> {
 
 impl<R: Drop, F: Source> Keeper<R, F> {
     /// Keeps these, and the users under this key of their salts, as all that are read later. The only error is that an allocation failed.
-    pub(crate) fn new(
+    pub fn new(
         rt: R,
         alloc: Global,
         settings: Settings,
@@ -221,6 +229,8 @@ impl<R: Drop, F: Source> Keeper<R, F> {
             rt,
             alloc,
             kept: Mutex::new(kept),
+            unsettled: Mutex::new(None),
+            settled: Condvar::new(),
             at_start,
             changed: Condvar::new(),
             salts,
@@ -231,7 +241,7 @@ impl<R: Drop, F: Source> Keeper<R, F> {
 
 impl<R: Wait, F: Source> Keeper<R, F> {
     /// The settings and users of a client that comes now.
-    pub(crate) fn share(&self) -> Result<(Arc<Settings>, Arc<Users>), AllocError>
+    pub fn share(&self) -> Result<(Arc<Settings>, Arc<Users>), AllocError>
         ensures { IfOk result (λ p. AreWithinBounds (arc_value p.0)) }
     {
         let kept = self.kept.lock(&self.rt);
@@ -272,22 +282,45 @@ impl<R: Wait, F: Source> Keeper<R, F> {
         self.source.stops_listening();
     }
 
-    /// Reads the files again, and keeps what they say for later clients; the limits of the settings, twice. What was derived of a
-    /// password is kept where it is still the user's. Where a file has a fault or an allocation fails nothing is kept.
-    pub(crate) fn reload(&self) -> Result<(Arc<Limits>, Arc<Limits>), Unread>
-        ensures { IfOk result (λ p. arc_value p.1 ≡ arc_value p.0) }
-    {
+    /// Reads the files again. What was derived of a password is kept where it is still the user's. The error is that a file has a fault, or
+    /// that an allocation failed.
+    fn read(&self) -> Result<Reread, Unread> {
         let (settings, table) = self.source.read()?;
-        let limits = limits_twice(self.alloc, &settings)?;
+        let limits = shared_limits(self.alloc, &settings)?;
         let users = Users::new(table, self.salts);
         let earlier = self.underived()?;
         let kept = Kept::new(self.alloc, settings, users, earlier.reloads.wrapping_add(1))?;
         if kept.wants_keys() {
             kept.users.take_over(self.alloc, &earlier.users);
         }
-        *self.kept.lock(&self.rt) = kept;
-        self.changed.notify_all();
+        Ok(Reread { limits, kept })
+    }
+
+    /// Waits until nothing is unsettled that was read before.
+    fn wait_settled(&self) -> MutexGuard<'_, Option<Kept>> {
+        let mut unsettled = self.unsettled.lock(&self.rt);
+        for _ in self.rt.forever() {
+            if unsettled.is_none() {
+                return unsettled;
+            }
+            unsettled = self.settled.wait(&self.rt, unsettled);
+        }
+        unreachable!()
+    }
+
+    /// Reads the files again, once nothing is unsettled that was read before; the limits of the settings. Where they can't be read nothing
+    /// is unsettled.
+    fn read_in_turn(&self) -> Result<Arc<Limits>, Unread> {
+        let mut unsettled = self.wait_settled();
+        let Reread { limits, kept } = self.read()?;
+        *unsettled = Some(kept);
         Ok(limits)
+    }
+
+    /// This holds for later clients from now on.
+    fn put_in_force(&self, read: Kept) {
+        *self.kept.lock(&self.rt) = read;
+        self.changed.notify_all();
     }
 
     /// The users of later clients.
@@ -356,6 +389,44 @@ impl<R: Wait, F: Source> Keeper<R, F> {
 }
 
 impl<R: Wait + Clock, F: Source> Keeper<R, F> {
+    /// Reads the files again, once what was read before is settled; the limits of the settings. Nothing of what was read holds before it is
+    /// settled. `None` where a file has a fault or an allocation fails, which the log is told; nothing is to be settled then.
+    pub fn reload(&self, log: &PoolLog<R>) -> Option<Arc<Limits>> {
+        match self.read_in_turn() {
+            Ok(limits) => Some(limits),
+            Err(Unread::Fault(fault)) => {
+                log.not_reloaded(fault.as_bytes());
+                None
+            }
+            Err(Unread::Memory) => {
+                log.not_reloaded(b"memory");
+                None
+            }
+        }
+    }
+
+    /// So the book answered to the limits that were read. Where it keeps them, all that was read holds for later clients from now on, and
+    /// the log is told so; else it is forgotten.
+    pub fn settle(&self, log: &PoolLog<R>, changed: Changed) {
+        let mut unsettled = self.unsettled.lock(&self.rt);
+        match (unsettled.take(), changed) {
+            (Some(read), Changed::Done) => {
+                self.put_in_force(read);
+                self.tell_reloaded(log);
+            }
+            (Some(_), Changed::Last) => log.not_reloaded(Refusal::LastDecision.code()),
+            (None, _) => {}
+        }
+        self.settled.notify_one();
+    }
+
+    /// Tells the log that the files were read again, and what of them isn't as they say.
+    fn tell_reloaded(&self, log: &PoolLog<R>) {
+        log.reloaded();
+        self.tell_users(log);
+        self.tell_staying(log);
+    }
+
     /// Tells the log of secrets by which no later client can log in.
     pub(crate) fn tell_users(&self, log: &PoolLog<R>) {
         if let Ok((settings, users)) = self.share() {
@@ -364,7 +435,7 @@ impl<R: Wait + Clock, F: Source> Keeper<R, F> {
     }
 
     /// Tells the log of settings that the files say anew, and that are as they were at the start.
-    pub(crate) fn tell_staying(&self, log: &PoolLog<R>) {
+    fn tell_staying(&self, log: &PoolLog<R>) {
         let Ok((settings, _)) = self.share() else {
             return;
         };

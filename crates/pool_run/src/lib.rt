@@ -4,7 +4,7 @@
 mod figures;
 pub mod keeping;
 pub mod listening;
-mod log;
+pub mod log;
 mod places;
 pub mod pool;
 pub mod runtime;

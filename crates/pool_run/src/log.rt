@@ -17,7 +17,7 @@ use std::time::Instant;
 use user_file::Users;
 
 /// A log, and the connections that weren't served since it was told of some.
-pub(crate) struct PoolLog<R> {
+pub struct PoolLog<R> {
     rt: R,
     alloc: Global,
     log: Arc<Log>,
@@ -41,7 +41,7 @@ impl<R: Drop> Drop for PoolLog<R> {
 }
 
 impl<R> PoolLog<R> {
-    pub(crate) fn new(rt: R, alloc: Global, log: Arc<Log>) -> PoolLog<R> {
+    pub fn new(rt: R, alloc: Global, log: Arc<Log>) -> PoolLog<R> {
         PoolLog {
             rt,
             alloc,
@@ -122,7 +122,7 @@ impl<R: Wait + Clock> PoolLog<R> {
         self.event(Event::IdleClosed(number, heard));
     }
 
-    /// The files were read again.
+    /// The files were read again, and hold for later clients.
     pub(crate) fn reloaded(&self) {
         self.event(Event::Reloaded);
     }
@@ -152,9 +152,9 @@ impl<R: Wait + Clock> PoolLog<R> {
         self.event(Event::AsAtStart(setting));
     }
 
-    /// They weren't, because of this fault.
-    pub(crate) fn not_reloaded(&self, fault: &str) {
-        self.event(Event::NotReloaded(fault.as_bytes()));
+    /// What the files say doesn't hold, because of this.
+    pub(crate) fn not_reloaded(&self, why: &[u8]) {
+        self.event(Event::NotReloaded(why));
     }
 
     /// A connection can't be served, or had. It is told with the next second.

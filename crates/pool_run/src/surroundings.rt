@@ -5,7 +5,7 @@ ghost use Rattle.tcp_end.specs.Connections.{new_connection};
 ghost use Rattle.tcp_reach.specs.Places.{IsPlaceOf};
 ghost use Rattle.tcp_reach.specs.Streams.{own_place};
 
-use crate::keeping::{Keeper, Source, Unread};
+use crate::keeping::{Keeper, Source};
 use crate::log::PoolLog;
 use crate::places::Places;
 use crate::pool::MOST_CUT;
@@ -14,7 +14,7 @@ use book_model::limits::Limits;
 use bytes::BytesMut;
 use credentials::Credential;
 use keep_alive::Keepalive;
-use link_desk::answers::Strike;
+use link_desk::answers::{Changed, Strike};
 use log_lines::notes::{Client, Note};
 use message_view::put_cancel_request;
 use pool_desk::outside::Outside;
@@ -180,23 +180,12 @@ impl<R: PoolRuntime, F: Source> Outside for Surroundings<R, F> {
         let _ = send(&self.rt, self.alloc, known, strike);
     }
 
-    fn reload(&self) -> Option<(Arc<Limits>, Arc<Limits>)> {
-        match self.keeper.reload() {
-            Ok(limits) => {
-                self.log.reloaded();
-                self.keeper.tell_users(&self.log);
-                self.keeper.tell_staying(&self.log);
-                Some(limits)
-            }
-            Err(Unread::Fault(fault)) => {
-                self.log.not_reloaded(&fault);
-                None
-            }
-            Err(Unread::Memory) => {
-                self.log.not_reloaded("memory");
-                None
-            }
-        }
+    fn reload(&self) -> Option<Arc<Limits>> {
+        self.keeper.reload(&self.log)
+    }
+
+    fn settle(&self, changed: Changed) {
+        self.keeper.settle(&self.log, changed);
     }
 
     fn note(&self, client: &Client<'_>, note: &Note<'_>) {

@@ -168,12 +168,16 @@ impl<'a, R: Wait + Clock, D: LinkDesk> LinkDesk for WatchedDesk<'a, R, D> {
         self.desk.reconnect(pass)
     }
 
-    fn limits(&self, pass: &mut D::Pass, limits: Arc<Limits>, again: Arc<Limits>) -> Changed {
-        self.desk.limits(pass, limits, again)
+    fn limits(&self, pass: &mut D::Pass, limits: Arc<Limits>) -> Changed {
+        self.desk.limits(pass, limits)
     }
 
-    fn reload(&self) -> Option<(Arc<Limits>, Arc<Limits>)> {
+    fn reload(&self) -> Option<Arc<Limits>> {
         self.desk.reload()
+    }
+
+    fn settle(&self, pass: &D::Pass, changed: Changed) {
+        self.desk.settle(pass, changed);
     }
 
     fn note(&self, client: &Client<'_>, note: &Note<'_>) {
