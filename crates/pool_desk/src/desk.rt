@@ -468,6 +468,10 @@ impl<R: Wait + Clock, S: Outside, K: Ledgers> LinkDesk for Desk<R, S, K> {
         self.outside.reload()
     }
 
+    fn settle(&self, _pass: &Pass<K>, changed: Changed) {
+        self.outside.settle(changed);
+    }
+
     fn note(&self, client: &Client<'_>, note: &Note<'_>) {
         self.outside.note(client, note);
     }

@@ -5,7 +5,7 @@ ghost use Rattle.desk_tallies.specs.Homes.{IsDialled};
 
 use book_model::limits::Limits;
 use credentials::Credential;
-use desk_tallies::answers::Strike;
+use desk_tallies::answers::{Changed, Strike};
 use log_lines::notes::{Client, Note};
 use server_end::ServerEnd;
 use start_keys::StartKey;
@@ -51,10 +51,17 @@ pub trait Outside {
     /// waits until the server has closed that connection, or for some seconds.
     fn strike(&self, strike: &Strike);
 
-    /// Reads the files of settings and users again, and keeps them for later clients; the limits of the settings. `None` where a file has a
-    /// fault or memory is refused: nothing is kept then. So it is where there are no files.
+    /// Reads the files of settings and users again, once no earlier reading of them is unsettled: the limits of the settings. Nothing of
+    /// what was read holds before [`Outside::settle`], which is to follow. `None` where a file has a fault or memory is refused, and then
+    /// nothing is unsettled. So it is where there are no files.
     fn reload(&self) -> Option<Arc<Limits>> {
         None
+    }
+
+    /// The limits that were read were answered so. Where the book keeps them, all that was read holds for later clients from now on, and the
+    /// log is told so; else it is forgotten.
+    fn settle(&self, changed: Changed) {
+        let _ = changed;
     }
 
     /// Tells the log, if there is one. It waits for no reader of it.
