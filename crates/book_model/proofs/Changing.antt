@@ -23,6 +23,7 @@ with_any_settings P Reconnect b h = h b.limits b.is_paused b.is_shut b.next_link
 
 -- the counts that others depend on don't speak of it
 pub change_untold : (change : Change) (c : Counts) → telling (raised (kind_of_change change) c) ≡ telling c
+change_untold (NewLimits limits) c = refl
 change_untold _ c = refl
 
 pub change_fresh : (b : Book) (change : Change) → Kept b → KeptFresh b.idle (changed change b).fresh_from b.next_link

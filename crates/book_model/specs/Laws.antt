@@ -4,7 +4,7 @@ use Rattle.std.specs.List.{list_any}
 use Rattle.message_view.specs.declared.refusal.Refusal.{Refusal}
 use Rattle.message_view.specs.declared.views.KeyView.{KeyView}
 use Rattle.session_values.specs.State.{StartKeyOf}
-use Rattle.book_model.specs.Book.{Book, Lease, Limits, Link, Ticket, is_number}
+use Rattle.book_model.specs.Book.{Book, Lease, Link, Ticket, is_number}
 use Rattle.book_model.specs.Outcomes.{Change, Event, apply, apply_return}
 use Rattle.book_model.specs.declared.events.Beyond.{Beyond}
 use Rattle.book_model.specs.declared.events.Reply.{Reply}
