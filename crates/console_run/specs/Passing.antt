@@ -15,7 +15,7 @@ pub record Pass : Type 0 where
 abbrev pub pass_of : PassOf → Holder → Pass
 pass_of told holder = record { told = told; holder = holder }
 
--- the call that does an action; once the files were read again, their limits hold
+-- the call that does an action; files that were read again hold once their limits do
 abbrev pub call_of : Action → Call
 call_of Pause = call.Pause
 call_of Resume = call.Resume

@@ -185,7 +185,7 @@ fn shown_bytes(
     }
 }
 
-/// What the log is told of an action that was done; of new files it is told where they are read.
+/// What the log is told of an action that was done; of new files the desk tells it.
 fn note_of(action: Action) -> Option<Note<'static>> {
     match action {
         Action::Pause => Some(Note::Paused),

@@ -1,6 +1,7 @@
 //! The settings and users of later clients, which a RELOAD changes.
 ghost use Rattle.std.specs.Prelude.{◌≡◌, IfOk};
 ghost use Rattle.std.specs.Arc.{arc_value};
+ghost use Rattle.book_model.specs.Limits.{limits_in};
 ghost use Rattle.ini_config.specs.Bounds.{AreWithinBounds};
 ghost use Rattle.pool_run.specs.Logins.{IsNewLogin};
 ghost use Rattle.pool_run.specs.Telling as spec;
@@ -133,6 +134,7 @@ impl Kept {
         reloads: u64,
     ) -> Result<Kept, AllocError>
         requires { AreWithinBounds settings }
+        ensures { IfOk result (λ k. k.settings ≡ settings) }
     {
         Ok(Kept {
             settings: Bounded::new(alloc, settings)?,
@@ -166,6 +168,7 @@ impl Drop for Underived {
 /// The limits of these settings, which are shared.
 fn shared_limits(alloc: Global, settings: &Settings) -> Result<Arc<Limits>, AllocError>
     requires { AreWithinBounds settings.now }
+    ensures { IfOk result (λ l. arc_value l ≡ limits_in settings.now) }
 {
     Ok(Arc::new(alloc, limits_of(alloc, settings)?)?)
 }
@@ -284,7 +287,9 @@ impl<R: Wait, F: Source> Keeper<R, F> {
 
     /// Reads the files again. What was derived of a password is kept where it is still the user's. The error is that a file has a fault, or
     /// that an allocation failed.
-    fn read(&self) -> Result<Reread, Unread> {
+    fn read(&self) -> Result<Reread, Unread>
+        ensures { IfOk result (λ r. arc_value r.limits ≡ limits_in r.kept.settings) }
+    {
         let (settings, table) = self.source.read()?;
         let limits = shared_limits(self.alloc, &settings)?;
         let users = Users::new(table, self.salts);

@@ -25,6 +25,8 @@ mod pairs;
 #[cfg(test)]
 mod pools;
 #[cfg(test)]
+mod reloads;
+#[cfg(test)]
 mod sights;
 #[cfg(test)]
 mod stubs;

@@ -13,8 +13,8 @@ use std::time::Duration;
 
 /// What a writer was given, and whether it takes more.
 #[derive(Drop)]
-struct Given {
-    bytes: Mutex<Vec<u8>>,
+pub struct Given {
+    pub bytes: Mutex<Vec<u8>>,
     /// How many writes have begun.
     begun: AtomicU64,
     /// 1 where writes go on.
@@ -23,9 +23,9 @@ struct Given {
 
 /// A writer that waits, for at most 20,000 sleeps of 1 ms, until it may write.
 #[derive(Drop)]
-struct Held<R: Wait + Clock + Drop> {
-    rt: R,
-    given: Arc<Given>,
+pub struct Held<R: Wait + Clock + Drop> {
+    pub rt: R,
+    pub given: Arc<Given>,
 }
 
 impl<R: Wait + Clock + Drop> Write for Held<R> {
@@ -46,7 +46,7 @@ impl<R: Wait + Clock + Drop> Write for Held<R> {
     }
 }
 
-fn nothing_given(alloc: Global, is_open: u64) -> Result<Arc<Given>, Fail> {
+pub fn nothing_given(alloc: Global, is_open: u64) -> Result<Arc<Given>, Fail> {
     Ok(Arc::new(
         alloc,
         Given {

@@ -35,7 +35,7 @@ fn catalogue(alloc: Global) -> Result<Catalogue, Fail> {
     )
 }
 
-fn users(alloc: Global) -> Option<UserTable> {
+pub fn users(alloc: Global) -> Option<UserTable> {
     read_users(alloc, b"\"ann\" \"secret\"\n").ok()
 }
 
@@ -50,7 +50,7 @@ fn settings_of(alloc: Global, text: &[u8]) -> Option<Settings>
 }
 
 /// A server of the loopback network at this port, and these options.
-fn settings(alloc: Global, port: u16, options: &str) -> Option<Settings>
+pub fn settings(alloc: Global, port: u16, options: &str) -> Option<Settings>
     ensures { IfSome result (λ s. AreWithinBounds s) }
 {
     let text = format!(in alloc;
