@@ -51,9 +51,10 @@ no_kit() { # with no rt in the path: the shell's own programs alone
 }
 check "no kit is refused" refused no_kit
 
-# a copy, whose programs are not those of this tree
+# a copy, whose programs are not those of this tree; with all crates and pages that the table of the settings is compared with
 mkdir "$work/copy"
-find crates.txt HANDLES RATTLE_KIT tools crates/frame_view crates/message_view crates/view_dump \
+mapfile -t settings < <(tools/settings.py --list | sed 's#^\(crates/[^/]*\)/.*#\1#' | sort -u)
+find crates.txt HANDLES RATTLE_KIT tools crates/frame_view crates/message_view crates/view_dump "${settings[@]}" \
     -name out -prune -o -name __pycache__ -prune -o -type f -print | tar -c -T - | tar -x -C "$work/copy"
 check "a proof takes the crates below alone, without their edits" stood_in env RT_JOBS=3 "$work/copy/tools/prove.py" view_dump
 said "2 of 3: message_view proved"
@@ -63,9 +64,14 @@ check "what the prover said is kept" grep -q "rt: frame_view proved" "$work/copy
 check "what isn't proved fails" refused stood_in env SAYS="NOT PROVED" "$work/copy/tools/prove.py" frame_view
 said "prove: NOT PROVED"
 check "make quick passes, a line for each crate" stood_in "$work/copy/tools/quick.py" message_view frame_view
-said "quick: 5 passed, 0 failed; nothing is proved"
+said "quick: 6 passed, 0 failed; nothing is proved"
 check "a test that fails is told" refused stood_in env SAYS=no "$work/copy/tools/quick.py" frame_view
 check "so is a file out of its layout" refused stood_in env LAYOUT="rt: formatted src/lib.rt" "$work/copy/tools/quick.py" frame_view
+sed -i 's/^listen_port = 6432$/listen_port = 6433/' "$work/copy/examples/pgsess.ini"
+check "and a page that doesn't say what the table of the settings does" refused stood_in "$work/copy/tools/quick.py" frame_view
+said "by the table: listen_port = 6432"
+check "which is written" "$work/copy/tools/settings.py" --write
+check "and then says it" cmp examples/pgsess.ini "$work/copy/examples/pgsess.ini"
 # a prover that takes a second of processor time for a crate, and refuses it
 cat > "$work/bin/prover" << 'PROVER'
 #!/usr/bin/env bash
