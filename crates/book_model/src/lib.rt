@@ -1,5 +1,9 @@
 //! The lease book by definitions: which client waits, which link is lent or idle, what each event makes of them, and what holds of
 //! every book that began empty; and the limits that it decides by, which the settings give.
+//!
+//! Public: `Event`, `Change`, `Reply`, `Limits`, `Counts`, and the definitions over them (`apply`, `Kept`, `Replays`), which every crate
+//! of the book, the desk, the console and the worlds cites. `book_laws`, `books_are_in_order` and `old_links_are_done_with` do nothing:
+//! they are there for the law. Free to change: how `Limits` finds a row.
 #![tactic(auto)]
 
 ghost use Rattle.book_model.specs.Laws.{PlainEventsAddNothing, ArrivalsNumber, AsksQueue, TakesLend, TakesStart, TakesEvict, ReturnsAdd, ReturnsClose, TicksClose, HangUpsClose, KeyedKeys, CancelsStrike, ResetsRelease};

@@ -1,4 +1,6 @@
 //! Stand-in servers in memory, as a desk's workers reach them.
+//!
+//! Public: `MemoryDial` and its servers that a cancel reaches, for tests and `oom_probe`; the program has none of it.
 #![tactic(auto)]
 
 ghost use Rattle.std.specs.Prelude.{◌≡◌, ◌<◌, IfSome};

@@ -1,4 +1,6 @@
 //! Laws of the worlds: what the relation is after the book's events, and after starts, returns and resets of links.
+//!
+//! Public to `world_model`. Its functions do nothing: each is a law.
 #![tactic(auto)]
 
 ghost use Rattle.world_steps.specs.Laws.{BookStepsKeep, LinkStepsKeep};

@@ -1,4 +1,7 @@
 //! What holds in every world of clients, links and the book, whatever happens in it: the sentence that a pool is there for.
+//!
+//! Public: `every_world`, `two_worlds` and `every_cancel`, which do nothing: each is a law. HEADLINE says which functions of the program
+//! they speak of.
 #![tactic(auto)]
 
 ghost use Rattle.world_model.specs.Cancels.{OpenCancelsAreOwn, OpenCancelsStay, UnaskedAreUnstruck};

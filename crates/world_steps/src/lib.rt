@@ -1,5 +1,7 @@
 //! The worlds of the pooler: clients, links, the book and cancels, what may happen next, and what every step keeps. Here are the laws of
 //! the steps that leave the book's lists and the links' roles alone.
+//!
+//! Public to the other worlds: what a step is, and the laws of what it keeps. Its functions do nothing: each is a law.
 #![tactic(auto)]
 
 ghost use Rattle.world_steps.specs.Laws.{ByteStepsKeep, ClientStepsKeep, EndStepsKeep};

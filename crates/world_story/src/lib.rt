@@ -1,4 +1,7 @@
 //! A list of steps that the pooler's world can take, computed: what is said of every world is said of this one.
+//!
+//! Its functions do nothing: each is a law that a list of steps can be taken, or that a spoiled one would be seen, so that the others
+//! aren't said of nothing.
 #![tactic(auto)]
 
 ghost use Rattle.world_story.specs.Cancelled.{Cancelled, StrikesAnother};
