@@ -6,13 +6,14 @@ use Rattle.message_view.specs.declared.refusal.Refusal.{Refusal}
 use Rattle.message_view.specs.declared.refusal.Refusal.TheVariants.{TooManyClients, WaitedTooLong, ShuttingDown, LastDecision}
 use Rattle.message_view.specs.declared.views.KeyView.{KeyView}
 use Rattle.book_model.specs.Book.{Book, Lease, Link, Ticket, in_pool, lendable, link_count, places_beyond, pool_count, pool_size, is_of, is_of_client, is_link, waiting_before}
-use Rattle.book_model.specs.Outcomes.{Answer, Event, apply, changed, outcome, decided, counted, is_strange, kind_of, last_decision, loses_ticket, evicts, grants, hangs_up, has_waited, takes, is_old, is_crowded, gives_back, closes, at_clock, is_stale, cancels, strikes, strikes_at}
+use Rattle.book_model.specs.Outcomes.{Answer, Event, apply, outcome, decided, counted, is_strange, kind_of, last_decision, loses_ticket, evicts, grants, hangs_up, has_waited, takes, is_old, is_crowded, gives_back, closes, at_clock, is_stale, cancels, strikes, strikes_at}
 use Rattle.book_model.specs.Outcomes.Event.{Arrive, Ask, Take, GiveBack, Lost, StartFailed, Leave, Tick, Makes, Keyed, Cancel, EndLease, HungUp}
 use Rattle.book_model.specs.declared.counts.Kind.{Kind}
 use Rattle.book_model.specs.declared.counts.Kind.TheVariants.{Ticking}
 use Rattle.book_model.specs.declared.events.Reply.{Reply}
 use Rattle.book_model.specs.declared.events.Reply.TheVariants.{Queued, Refuse, Stranger, Nobody}
 use Rattle.book_model.specs.Replay.{is_decision, is_a_kind}
+use Rattle.book_model.proofs.Changing.{with_any_settings}
 
 both : (Q : Answer → Type 0) (b : Bool) (x y : Answer) → Q x → Q y → Q (cond b x y)
 both Q true x y p q = p
@@ -92,7 +93,7 @@ fair b (Lost n) = record { counts = refl; stays = λ n. cc }
 fair b (StartFailed n) = record { counts = refl; stays = λ n. cc }
 fair b (Leave c) = record { counts = refl; stays = λ n. cc }
 fair b (Tick now) = fair_closes b now (find (is_stale (at_clock b now)) b.idle)
-fair b (Makes change) = record { counts = elim change as (λ c. (changed c b).decisions ≡ b.decisions) [ _ ↦ refl ]; stays = λ n. cc }
+fair b (Makes change) = record { counts = with_any_settings (λ x. x.decisions ≡ b.decisions) change b (λ limits paused shut fresh. refl); stays = λ n. cc }
 fair b (Keyed n client server) = record { counts = refl; stays = λ k. cc }
 fair b (Cancel client) = fair_cancels b client (find (is_of_client client) b.keyed)
 fair b (EndLease n) = record { counts = refl; stays = λ k. cc }

@@ -7,12 +7,13 @@ use Rattle.message_view.specs.declared.refusal.Refusal.{Refusal}
 use Rattle.message_view.specs.declared.refusal.Refusal.TheVariants.{TooManyClients, WaitedTooLong, ShuttingDown, LastDecision}
 use Rattle.start_keys.specs.Keys.{same_key}
 use Rattle.book_model.specs.Book.{Book, Lease, Link, Ticket, find_last, in_pool, lendable, link_count, or_else, places_beyond, pool_count, pool_size, is_of, is_of_client, is_link, is_number, same_pool, waiting_before, without}
-use Rattle.book_model.specs.Outcomes.{Answer, Event, apply, changed, in_state, outcome, decided, counted, is_strange, kind_of, last_decision, loses_ticket, starts, evicts, grants, hangs_up, has_waited, takes, closes, at_clock, is_stale, cancels, ends_lease, strikes, strikes_at}
+use Rattle.book_model.specs.Outcomes.{Answer, Event, apply, in_state, outcome, decided, counted, is_strange, kind_of, last_decision, loses_ticket, starts, evicts, grants, hangs_up, has_waited, takes, closes, at_clock, is_stale, cancels, ends_lease, strikes, strikes_at}
 use Rattle.book_model.specs.Outcomes.Event.{Arrive, Ask, Take, GiveBack, Lost, StartFailed, Leave, Tick, Makes, Keyed, Cancel, EndLease, HungUp}
 use Rattle.book_model.specs.declared.counts.Kind.{Kind}
 use Rattle.book_model.specs.declared.events.Reply.{Reply}
 use Rattle.book_model.specs.declared.events.Reply.TheVariants.{Arrived, Queued, Refuse, Stranger, Reset, Dispose}
 use Rattle.book_model.specs.declared.events.ClientState.TheVariants.{LoggingIn, Waiting}
+use Rattle.book_model.proofs.Changing.{with_any_settings}
 use Rattle.book_model.proofs.KeepingFresh.{lendable_is}
 use Rattle.lease_book.specs.Links.{goes_out, is_return}
 
@@ -130,7 +131,7 @@ goes b (Lost n) r = record { idle = refl; there_is = refl }
 goes b (StartFailed n) r = record { idle = refl; there_is = refl }
 goes b (Leave c) r = record { idle = refl; there_is = refl }
 goes b (Tick now) r = goes_closes b now (is_stale (at_clock b now)) (find (is_stale (at_clock b now)) b.idle) refl
-goes b (Makes change) r = record { idle = elim change as (λ c. (changed c b).idle ≡ b.idle) [ _ ↦ refl ]; there_is = refl }
+goes b (Makes change) r = record { idle = with_any_settings (λ x. x.idle ≡ b.idle) change b (λ limits paused shut fresh. refl); there_is = refl }
 goes b (Keyed n client server) r = record { idle = refl; there_is = refl }
 goes b (Cancel client) r = goes_cancels b (find (is_of_client client) b.keyed)
 goes b (EndLease n) r = stays b (ends_lease b n) refl (ends_in_place (list_any (is_number n) b.marked))

@@ -9,12 +9,14 @@ use Rattle.session_values.specs.State.{StartKeyOf}
 use Rattle.book_model.specs.Book.{Book, Lease, Link, Ticket, in_pool, is_link, is_number, is_of, is_of_client, lendable, link_count, places_beyond, pool_count, pool_size, waiting_before}
 use Rattle.book_model.specs.Events.{event_of}
 use Rattle.book_model.specs.Outcomes.{Answer, Change, Event, apply, apply_return, at_clock, cancels, changed, closes, counted, decided, ends_lease, evicts, gives_back, grants, hangs_up, has_waited, is_crowded, is_old, is_stale, is_started_as, is_strange, kind_of, kind_of_change, last_decision, outcome, raised, strikes, strikes_at, takes}
+use Rattle.book_model.specs.Outcomes.Change.{NewLimits}
 use Rattle.book_model.specs.Outcomes.Event.{Arrive, Ask, Take, GiveBack, Lost, StartFailed, Leave, Tick, Makes, Keyed, Cancel, EndLease, HungUp}
 use Rattle.book_model.specs.declared.counts.Counts.{Counts}
 use Rattle.book_model.specs.declared.counts.Kind.{Kind}
 use Rattle.book_model.specs.declared.counts.Kind.TheVariants.{Arrival, ArrivalRefused, Asking, AskRefused, Grant, TicketLost, Return, Loss, FailedStart, Leaving, Ticking, Limiting, Pausing, Resuming, Closing, Keying, Cancelling, LeaseEnding, HangUp, Reconnecting}
 use Rattle.book_model.specs.declared.events.Reply.{Reply}
 use Rattle.book_model.specs.declared.events.Reply.TheVariants.{Refuse, Done, Stranger, Dispose, Reset}
+use Rattle.book_model.proofs.Changing.{with_any_settings}
 use Rattle.book_model.proofs.KeepingLists.{not_found}
 use Rattle.lease_book.specs.Links.{answered, plain}
 use Rattle.lease_book.specs.declared.events.Event.{Event as LinkEvent}
@@ -193,10 +195,11 @@ fits_ended b n true = record { counts = refl; tells = λ p. refl }
 fits_ended b n false = record { counts = refl; tells = λ p. refl }
 
 changed_counts : (change : Change) (b : Book) → (changed change b).counts ≡ b.counts
-changed_counts change b = elim change as (λ c. (changed c b).counts ≡ b.counts) [ _ ↦ refl ]
+changed_counts change b = with_any_settings (λ x. x.counts ≡ b.counts) change b (λ limits paused shut fresh. refl)
 
 changed_tells : (change : Change) (p : PassOf) → Tells (Makes change) Done p (passed (Some (kind_of_change change)) Done p)
-changed_tells change p = elim change as (λ c. Tells (Makes c) Done p (passed (Some (kind_of_change c)) Done p)) [ _ ↦ refl ]
+changed_tells (NewLimits limits) p = refl
+changed_tells _ p = refl
 
 fits : (b : Book) (e : Event) → is_strange b e ≡ false → Fits b e (outcome b e)
 fits b (Arrive beyond) known =
