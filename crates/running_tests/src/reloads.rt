@@ -45,7 +45,11 @@ impl Source for Files {
 }
 
 /// Settings of a server at port 1, and such files.
-fn files<R: Wait + Drop>(rt: R, alloc: Global, vain: u64) -> Result<Keeper<R, Files>, Fail> {
+fn start_keeping<R: Wait + Drop>(
+    rt: R,
+    alloc: Global,
+    vain: u64,
+) -> Result<Keeper<R, Files>, Fail> {
     let settings = settings(alloc, 1, "").ok_or("no settings")?;
     let users = users(alloc).ok_or("no users")?;
     let elsewhere = Elsewhere {
@@ -85,7 +89,7 @@ fn port<R: Wait>(files: &Keeper<R, Files>) -> Result<u16, Fail> {
 
 #[test]
 fn what_was_read_holds_once_its_limits_do(rt: HostRuntime) -> Result<(), Fail> {
-    let files = files(rt, rt.alloc(), NEVER)?;
+    let files = start_keeping(rt, rt.alloc(), NEVER)?;
     let (log, given, writing) = log(rt, rt.alloc())?;
     assert!(rt; files.reload(&log).is_some());
     assert!(rt; port(&files)? == 1);
@@ -99,7 +103,7 @@ fn what_was_read_holds_once_its_limits_do(rt: HostRuntime) -> Result<(), Fail> {
 // Nor does what was refused hold up who reads the files the next time.
 #[test]
 fn behind_the_last_decision_nothing_holds_that_was_read(rt: HostRuntime) -> Result<(), Fail> {
-    let files = files(rt, rt.alloc(), NEVER)?;
+    let files = start_keeping(rt, rt.alloc(), NEVER)?;
     let (log, given, writing) = log(rt, rt.alloc())?;
     for _ in 0..2u32 {
         assert!(rt; files.reload(&log).is_some());
@@ -126,7 +130,7 @@ fn reload_beside<R: Wait + Clock>(
 
 #[test]
 fn one_reload_waits_for_another(rt: HostRuntime) -> Result<(), Fail> {
-    let files = Arc::new(rt.alloc(), files(rt, rt.alloc(), NEVER)?)?;
+    let files = Arc::new(rt.alloc(), start_keeping(rt, rt.alloc(), NEVER)?)?;
     let (log, given, writing) = log(rt, rt.alloc())?;
     let log = Arc::new(rt.alloc(), log)?;
     let has_read = Arc::new(rt.alloc(), AtomicBool::new(false))?;
@@ -148,7 +152,7 @@ fn one_reload_waits_for_another(rt: HostRuntime) -> Result<(), Fail> {
 // Of the two that wait for the first, one reads in vain.
 #[test]
 fn a_reload_in_vain_holds_up_no_other(rt: HostRuntime) -> Result<(), Fail> {
-    let files = Arc::new(rt.alloc(), files(rt, rt.alloc(), 1)?)?;
+    let files = Arc::new(rt.alloc(), start_keeping(rt, rt.alloc(), 1)?)?;
     let (log, given, writing) = log(rt, rt.alloc())?;
     let log = Arc::new(rt.alloc(), log)?;
     let has_read = Arc::new(rt.alloc(), AtomicBool::new(false))?;
