@@ -422,7 +422,8 @@ impl<R: Wait + Clock, F: Source> Keeper<R, F> {
             (Some(_), Changed::Last) => log.not_reloaded(Refusal::LastDecision.code()),
             (None, _) => {}
         }
-        self.settled.notify_one();
+        // all, since one that then reads in vain wakes no other
+        self.settled.notify_all();
     }
 
     /// Tells the log that the files were read again, and what of them isn't as they say.

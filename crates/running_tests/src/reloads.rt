@@ -1,27 +1,67 @@
 //! Files that are read again, and hold once the book keeps to their limits.
 use crate::logs::{Given, Held, nothing_given};
 use crate::pools::{Elsewhere, settings, users};
+use ini_config::Settings;
 use link_desk::answers::Changed;
 use log_writer::log::{LogThread, begin};
-use pool_run::keeping::Keeper;
+use pool_run::keeping::{Keeper, Source, Unread};
 use pool_run::log::PoolLog;
 use std::alloc::Global;
 use std::rt::Clock;
-use std::sync::atomic::{AtomicBool, Ordering};
+use std::sync::atomic::{AtomicBool, AtomicU64, Ordering};
 use std::sync::{Arc, Wait};
 use std::test::Fail;
 use std::thread::{self, Threads, sleep};
 use std::time::Duration;
+use user_file::UserTable;
 
-/// Settings of a server at port 1, and files that lead to port 2.
-fn files<R: Wait + Drop>(rt: R, alloc: Global) -> Result<Keeper<R, Elsewhere>, Fail> {
+/// A reading that doesn't come.
+const NEVER: u64 = u64::MAX;
+
+/// Files that lead to port 2. At one of their readings, counted from 0, they can't be read.
+struct Files {
+    elsewhere: Elsewhere,
+    readings: AtomicU64,
+    vain: u64,
+}
+
+impl Drop for Files {
+    fn drop(self) {
+        let Files {
+            elsewhere: _,
+            readings: _,
+            vain: _,
+        } = self;
+    }
+}
+
+impl Source for Files {
+    fn read(&self) -> Result<(Settings, UserTable), Unread> {
+        if self.readings.fetch_add(1, Ordering::SeqCst) == self.vain {
+            return Err(Unread::Memory);
+        }
+        self.elsewhere.read()
+    }
+}
+
+/// Settings of a server at port 1, and such files.
+fn start_keeping<R: Wait + Drop>(
+    rt: R,
+    alloc: Global,
+    vain: u64,
+) -> Result<Keeper<R, Files>, Fail> {
     let settings = settings(alloc, 1, "").ok_or("no settings")?;
     let users = users(alloc).ok_or("no users")?;
-    let source = Elsewhere {
+    let elsewhere = Elsewhere {
         alloc,
         port: 2,
         options: "",
         was_asked: AtomicBool::new(true),
+    };
+    let source = Files {
+        elsewhere,
+        readings: AtomicU64::new(0),
+        vain,
     };
     Ok(Keeper::new(rt, alloc, settings, users, [0; 32], source)?)
 }
@@ -41,7 +81,7 @@ fn log<R: Threads + Wait + Clock + Copy + Drop + Send + 'static>(
 }
 
 /// The port to which a client is led that comes now.
-fn port<R: Wait>(files: &Keeper<R, Elsewhere>) -> Result<u16, Fail> {
+fn port<R: Wait>(files: &Keeper<R, Files>) -> Result<u16, Fail> {
     let (settings, _) = files.share()?;
     let row = settings.rows.get(b"shop").ok_or("no row")?;
     Ok(row.port)
@@ -49,7 +89,7 @@ fn port<R: Wait>(files: &Keeper<R, Elsewhere>) -> Result<u16, Fail> {
 
 #[test]
 fn what_was_read_holds_once_its_limits_do(rt: HostRuntime) -> Result<(), Fail> {
-    let files = files(rt, rt.alloc())?;
+    let files = start_keeping(rt, rt.alloc(), NEVER)?;
     let (log, given, writing) = log(rt, rt.alloc())?;
     assert!(rt; files.reload(&log).is_some());
     assert!(rt; port(&files)? == 1);
@@ -63,7 +103,7 @@ fn what_was_read_holds_once_its_limits_do(rt: HostRuntime) -> Result<(), Fail> {
 // Nor does what was refused hold up who reads the files the next time.
 #[test]
 fn behind_the_last_decision_nothing_holds_that_was_read(rt: HostRuntime) -> Result<(), Fail> {
-    let files = files(rt, rt.alloc())?;
+    let files = start_keeping(rt, rt.alloc(), NEVER)?;
     let (log, given, writing) = log(rt, rt.alloc())?;
     for _ in 0..2u32 {
         assert!(rt; files.reload(&log).is_some());
@@ -78,18 +118,19 @@ fn behind_the_last_decision_nothing_holds_that_was_read(rt: HostRuntime) -> Resu
 
 /// Reads the files again, as a RELOAD does, and says so before it is settled.
 fn reload_beside<R: Wait + Clock>(
-    files: &Keeper<R, Elsewhere>,
+    files: &Keeper<R, Files>,
     log: &PoolLog<R>,
     has_read: &AtomicBool,
 ) {
-    let _ = files.reload(log);
-    has_read.store(true, Ordering::SeqCst);
-    files.settle(log, Changed::Done);
+    if files.reload(log).is_some() {
+        has_read.store(true, Ordering::SeqCst);
+        files.settle(log, Changed::Done);
+    }
 }
 
 #[test]
 fn one_reload_waits_for_another(rt: HostRuntime) -> Result<(), Fail> {
-    let files = Arc::new(rt.alloc(), files(rt, rt.alloc())?)?;
+    let files = Arc::new(rt.alloc(), start_keeping(rt, rt.alloc(), NEVER)?)?;
     let (log, given, writing) = log(rt, rt.alloc())?;
     let log = Arc::new(rt.alloc(), log)?;
     let has_read = Arc::new(rt.alloc(), AtomicBool::new(false))?;
@@ -105,5 +146,30 @@ fn one_reload_waits_for_another(rt: HostRuntime) -> Result<(), Fail> {
     writing.close(&rt);
     let lines = b"pgsess: reloaded\npgsess: reloaded\n";
     assert!(rt; given.bytes.lock(&rt).as_slice() == lines.as_slice());
+    Ok(())
+}
+
+// Of the two that wait for the first, one reads in vain.
+#[test]
+fn a_reload_in_vain_holds_up_no_other(rt: HostRuntime) -> Result<(), Fail> {
+    let files = Arc::new(rt.alloc(), start_keeping(rt, rt.alloc(), 1)?)?;
+    let (log, given, writing) = log(rt, rt.alloc())?;
+    let log = Arc::new(rt.alloc(), log)?;
+    let has_read = Arc::new(rt.alloc(), AtomicBool::new(false))?;
+    assert!(rt; files.reload(&log).is_some());
+    let mut beside = Vec::new(rt.alloc());
+    for _ in 0..2u32 {
+        let (other, its_log) = (Arc::try_clone(&files)?, Arc::try_clone(&log)?);
+        let says = Arc::try_clone(&has_read)?;
+        beside.push(thread::spawn(&rt, move || reload_beside(&other, &its_log, &says))?)?;
+    }
+    sleep(&rt, Duration::from_millis(200));
+    files.settle(&log, Changed::Done);
+    for thread in beside {
+        thread.join(&rt);
+    }
+    assert!(rt; has_read.load(Ordering::SeqCst));
+    writing.close(&rt);
+    assert!(rt; given.bytes.lock(&rt).len() == 17 + 17 + 29);
     Ok(())
 }
