@@ -10,7 +10,7 @@ use Rattle.start_keys.specs.SameKeys.{same_keys-one}
 use Rattle.link_run.specs.Links.{LinkView}
 use Rattle.book_model.specs.Book.{Book, Link, is_link}
 use Rattle.book_model.specs.declared.limits.TheConstants.{MOST_LINKS}
-use Rattle.book_model.specs.Outcomes.{Answer, Event, apply, apply_return, outcome, decided, counted, gives_back, is_crowded, is_old, is_started_as, is_strange, kind_of, last_decision, loses}
+use Rattle.book_model.specs.Outcomes.{Answer, apply, apply_return, decided, counted, gives_back, is_crowded, is_old, is_started_as, is_strange, kind_of, last_decision, loses}
 use Rattle.book_model.specs.Outcomes.Event.{GiveBack}
 use Rattle.book_model.specs.declared.counts.Kind.{Kind}
 use Rattle.book_model.specs.declared.events.Reply.{Reply}

@@ -1,10 +1,9 @@
-use Rattle.std.proofs.Common.{rules, ◌≡◌, ◌∙◌, ℕ, Option, List, false, ap, refl, sym, subst}
+use Rattle.std.proofs.Common.{◌≡◌, ◌∙◌, ℕ, Option, ap, refl, sym, subst}
 use Rattle.std.specs.Prelude.{nat_lt}
-use Rattle.link_run.specs.Links.{LinkView}
 use Rattle.book_model.specs.Book.{Book}
 use Rattle.book_model.specs.Events.{event_of}
 use Rattle.book_model.specs.Outcomes.{Answer, apply}
-use Rattle.book_model.specs.Replay.{History, noted_of}
+use Rattle.book_model.specs.Replay.{noted_of}
 use Rattle.book_model.specs.declared.events.Reply.{Reply as ListsReply}
 use Rattle.lease_book.specs.Links.{BookOf, StrikesInPlace, answered, found, goes_out, left}
 use Rattle.lease_book.proofs.Holding.{holds_after, named_after, once_idle}
