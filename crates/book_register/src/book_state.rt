@@ -16,7 +16,7 @@ ghost use Rattle.book_rows.specs.Numbered.{number_of};
 ghost use Rattle.numbered_rows.specs.Places.{passes};
 ghost use Rattle.book_model.specs.Kept.{Kept};
 
-use book_model::counts::Counts;
+use book_model::counts::{Counts, Kind};
 use book_model::events::{Beyond, Change, ClientState, Reply};
 use book_model::limits::Limits;
 use book_rows::clients::{Client, Clients};
@@ -607,6 +607,19 @@ impl BookState {
         ensures { result ≡ number_of (find (outcome.is_stale self.now) self.now.idle) }
     {
         number_in(self.stale_slot(self.idle.slots()))
+    }
+}
+
+/// What is changed for all is of this kind.
+pub(crate) fn kind_of_change(change: &Change) -> Kind
+    ensures { result ≡ outcome.kind_of_change (change_of change.now) }
+{
+    match change {
+        Change::Limits(_) => Kind::Limiting,
+        Change::Pause => Kind::Pausing,
+        Change::Resume => Kind::Resuming,
+        Change::Shutdown => Kind::Closing,
+        Change::Reconnect => Kind::Reconnecting,
     }
 }
 

@@ -11,7 +11,7 @@ ghost use Rattle.book_register.specs.Kinds.{kind_in, kinds_of};
 ghost use Rattle.book_model.specs.Kept.{FitsLimits, Kept, total};
 
 use crate::beginning::fits;
-use crate::book_state::BookState;
+use crate::book_state::{BookState, kind_of_change};
 use book_model::counts::{Counts, Kind};
 use book_model::events::{Change, Event, Reply};
 use message_view::Refusal;
@@ -99,19 +99,6 @@ fn ticking(is_later: bool) -> Option<Kind>
     ensures { result ≡ cond is_later (Some Ticking) None }
 {
     if is_later { Some(Kind::Ticking) } else { None }
-}
-
-/// What is changed for all is of this kind.
-fn kind_of_change(change: &Change) -> Kind
-    ensures { result ≡ outcome.kind_of_change (change_of change.now) }
-{
-    match change {
-        Change::Limits(_) => Kind::Limiting,
-        Change::Pause => Kind::Pausing,
-        Change::Resume => Kind::Resuming,
-        Change::Shutdown => Kind::Closing,
-        Change::Reconnect => Kind::Reconnecting,
-    }
 }
 
 /// New settings fit.

@@ -44,8 +44,8 @@ fn drive_console<C: ClientEnd, D: LinkDesk, G: Gate<D::End>>(
 /// which it isn't told here: then all that it was told before is given. A turn of the gate is taken where nothing moved.
 ///
 /// It is refused where its message can't be one or is above the limit, where there was no memory, and where the book has made its last
-/// decision. PAUSE, RESUME, RELOAD, RECONNECT and SHUTDOWN are decisions made through the pass, each answered once it is made; what
-/// couldn't be answered for want of memory isn't done. `who` is told to the log beside them.
+/// decision. An action of the console is a decision made through the pass, answered once it is made; what couldn't be answered for want of
+/// memory isn't done. `who` is told to the log beside them.
 ///
 /// WAIT_CLOSE is answered once no link is stale any more that was there at the last RECONNECT, of its database, where it names one; by an
 /// error, where the book is shut down before that. Until then the book is looked at each second, and nothing else of the client's is
