@@ -171,16 +171,12 @@ pub trait LinkDesk {
     /// What is known beside the book. Nothing is claimed of it.
     ///
     /// `AllocError` where memory is refused.
-    fn seen(&self, alloc: Global) -> Result<Seen, AllocError> {
-        Ok(Seen::nothing(alloc))
-    }
+    fn seen(&self, alloc: Global) -> Result<Seen, AllocError>;
 
     /// The decisions that the book keeps, from the oldest on. Nothing is claimed of them.
     ///
     /// `AllocError` where memory is refused.
-    fn decisions(&self, alloc: Global) -> Result<Vec<DecisionSeen>, AllocError> {
-        Ok(Vec::new(alloc))
-    }
+    fn decisions(&self, alloc: Global) -> Result<Vec<DecisionSeen>, AllocError>;
 
     /// No link is lent until [`LinkDesk::resume`].
     fn pause(&self, pass: &mut Self::Pass) -> Changed

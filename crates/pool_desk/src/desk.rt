@@ -41,6 +41,7 @@ use link_run::links::CleanLink;
 use log_lines::notes::{Client, Note};
 use message_view::KeyView;
 use pool_figures::decisions::DecisionSeen;
+use pool_figures::seen::Seen;
 use server_end::ServerEnd;
 use start_keys::StartKey;
 use std::alloc::{AllocError, Global};
@@ -433,6 +434,10 @@ impl<R: Wait + Clock, S: Outside, K: Ledgers> LinkDesk for Desk<R, S, K> {
 
     fn view(&self, alloc: Global, pass: &mut Pass<K>) -> Result<BookView, AllocError> {
         self.core.lock(&self.rt).view(alloc, pass)
+    }
+
+    fn seen(&self, alloc: Global) -> Result<Seen, AllocError> {
+        Ok(Seen::nothing(alloc))
     }
 
     fn decisions(&self, alloc: Global) -> Result<Vec<DecisionSeen>, AllocError> {
