@@ -71,8 +71,8 @@ def keys(table):
     yield under(file, ["pub(crate) enum Key {"], "    /// A key of PgBouncer that is read over at its value.",
                 [f"    {it.Name}," for it in table.all])
     yield under(file, ["pub(crate) enum Setting<'a> {"], "    Nothing,", [f"    {it.Name}({it.given})," for it in table.kept])
-    yield Block(file, ["static SERVED: "], "];", [f"static SERVED: [(&str, Key); {len(table.all)}] = [",
-                                                  *(f'    ("{it.name}", Key::{it.Name}),' for it in table.all)])
+    served = joined(pair(f'"{it.name}"', f"Key::{it.Name}", "    ") for it in table.all)
+    yield Block(file, ["static SERVED: "], "];", [f"static SERVED: [(&str, Key); {len(table.all)}] = [", *served])
     consts = ([*comment(it.get("note")), f"const {it['name']}: u32 = {number(it['value'])};", ""] for it in table.bounds)
     yield under(file, ["static SERVED: ", "];"], "/// The key at the name in a table.", ["", *joined(consts)])
     yield under(file, ["pub(crate) fn read_setting", "    match key {"], "    }", joined(readings(table)))
@@ -117,7 +117,7 @@ def getter(it):
 def definitions(table):
     """The definitions of all these."""
     file = "crates/ini_config/specs/OptionValues.antt"
-    yield under(file, ["served ="], "", served(table))
+    yield under(file, ["served ="], "", keys_of_names(table))
     yield under(file, ["unfoldable pub change_of"], "change_of key.Unused text = Some (λ s. s)", [change(it) for it in table.all])
     yield under(file, ["defaults = record {", "  rows = [];"], "}", [f"  {it.name} = {in_definition(it)};" for it in table.kept])
     seen = {it: it.word if it.given.startswith("&") else it.letter for it in table.kept}
@@ -125,7 +125,7 @@ def definitions(table):
                 [f"changed_by (setting.{it.Name} {seen[it]}) s = record s {{ {it.name} = {it.changed} }}" for it in table.kept])
 
 
-def served(table):
+def keys_of_names(table):
     """The names of the keys with the keys, as many in a line as it takes."""
     lines = []
     for it in table.all:
