@@ -71,10 +71,10 @@ def keys(table):
     yield under(file, ["pub(crate) enum Key {"], "    /// A key of PgBouncer that is read over at its value.",
                 [f"    {it.Name}," for it in table.all])
     yield under(file, ["pub(crate) enum Setting<'a> {"], "    Nothing,", [f"    {it.Name}({it.given})," for it in table.kept])
-    yield Block(file, ["static SERVED: "], "];", [f"static SERVED: [(&str, Key); {len(table.all)}] = [",
-                                                  *(f'    ("{it.name}", Key::{it.Name}),' for it in table.all)])
-    consts = [[*comment(it.get("note")), f"const {it['name']}: u32 = {number(it['value'])};", ""] for it in table.bounds]
-    yield Block(file, [consts[0][0]], "/// The key at the name in a table.", joined(consts))
+    served = joined(pair(f'"{it.name}"', f"Key::{it.Name}", "    ") for it in table.all)
+    yield Block(file, ["static SERVED: "], "];", [f"static SERVED: [(&str, Key); {len(table.all)}] = [", *served])
+    consts = ([*comment(it.get("note")), f"const {it['name']}: u32 = {number(it['value'])};", ""] for it in table.bounds)
+    yield under(file, ["static SERVED: ", "];"], "/// The key at the name in a table.", ["", *joined(consts)])
     yield under(file, ["pub(crate) fn read_setting", "    match key {"], "    }", joined(readings(table)))
 
 
@@ -98,26 +98,26 @@ def values(table):
     yield under(file, ["        let Settings {", "            rows: _,"], "        } = self;",
                 [f"            {it.name}: _," for it in table.kept])
     lists = [it for it in reversed(table.kept) if it.held == "Names" and it.default]
-    yield Block(file, ["    pub fn defaults", "    {", "        let "], "        Ok(Settings {",
+    yield under(file, ["    pub fn defaults", "    {"], "        Ok(Settings {",
                 [f'        let {it.name} = Names::one(alloc, b"{on_page(it)}")?;' for it in lists])
     yield under(file, ["        Ok(Settings {", "            rows: Rows::new(alloc),"], "        })",
                 [f"            {it.name}{f': {in_code(it)}' if in_code(it) else ''}," for it in table.kept])
     yield under(file, ["    pub(crate) fn apply", "        match setting {"], "            Setting::Nothing => {}",
                 joined(arm(f"Setting::{it.Name}({it.word})", f"self.{it.name} = {it.kept}", " " * 12) for it in table.kept))
-    yield Block(file, [f"    /// {table.all[0].getter}"], "}", joined(map(getter, table.all))[:-1])
+    yield under(file, ["    pub fn untracks", "    }"], "}", joined(map(getter, table.all)))
 
 
 def getter(it):
     """The function that tells a setting."""
     result = "result.now" if it.told.startswith("&") else "result"
-    return [*comment(it.getter, "    "), f"    pub fn {it.name}(&self) -> {it.told}", f"        ensures {{ {result} ≡ {it.equals} }}",
-            "    {", f"        {it.body}", "    }", ""]
+    return ["", *comment(it.getter, "    "), f"    pub fn {it.name}(&self) -> {it.told}", f"        ensures {{ {result} ≡ {it.equals} }}",
+            "    {", f"        {it.body}", "    }"]
 
 
 def definitions(table):
     """The definitions of all these."""
     file = "crates/ini_config/specs/OptionValues.antt"
-    yield under(file, ["served ="], "", served(table))
+    yield under(file, ["served ="], "", keys_of_names(table))
     yield under(file, ["unfoldable pub change_of"], "change_of key.Unused text = Some (λ s. s)", [change(it) for it in table.all])
     yield under(file, ["defaults = record {", "  rows = [];"], "}", [f"  {it.name} = {in_definition(it)};" for it in table.kept])
     seen = {it: it.word if it.given.startswith("&") else it.letter for it in table.kept}
@@ -125,7 +125,7 @@ def definitions(table):
                 [f"changed_by (setting.{it.Name} {seen[it]}) s = record s {{ {it.name} = {it.changed} }}" for it in table.kept])
 
 
-def served(table):
+def keys_of_names(table):
     """The names of the keys with the keys, as many in a line as it takes."""
     lines = []
     for it in table.all:
