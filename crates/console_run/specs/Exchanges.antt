@@ -49,8 +49,8 @@ pub record Exchange : Type 0 where
   pub told : List FrameOf
   pub does : Option Action
 
--- An action is done, which is a decision of the book, and told so; of files that are read again it decides the limits. A fault in one of them
--- may refuse that: then nothing was done.
+-- An action is done, which is a decision of the book, and told so; of files that are read again it decides the limits. A fault in one may
+-- refuse that: then nothing was done.
 abbrev pub IsActed : Action → List FrameOf → Option Action → Type 0
 IsActed Reload told does = ((told ≡ done (tag Reload)) × (does ≡ Some Reload)) ⊎ ((told ≡ refused InvalidValue) × (does ≡ None))
 IsActed action told does = (told ≡ done (tag action)) × (does ≡ Some action)
