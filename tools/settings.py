@@ -306,13 +306,13 @@ def mdoc(sentence, names):
 
 
 def example(table):
-    """The example's section [pgbouncer]. A setting that it doesn't set has a line with its default that is a comment."""
+    """The example's section [pgbouncer]. A setting that it doesn't set has a line that is a comment."""
     lines = []
     for it in table.paged:
         said = it.comment or ". ".join([*sayings(it), ""]).replace("`", "").strip()
-        line = f"{it.name} = {on_page(it) if it.example is None else it.example}".strip()
         lines += ["", *textwrap.wrap(said, EXAMPLE, initial_indent="; ", subsequent_indent="; ")]
-        lines.append(f";{line}" if it.example is None else line)
+        line = f";{it.name} = {it.proposed or on_page(it)}" if it.example is None else f"{it.name} = {it.example}"
+        lines.append(line.strip())
     yield under("examples/pgsess.ini", ["[pgbouncer]"], None, [*lines[1:], ""])
 
 

@@ -11,7 +11,7 @@ TABLE = "crates/ini_config/settings.toml"
 
 # what the table may say of a setting, beside the words of kinds
 WORDS = set("""name kind default choices getter note bounded wrong_reader at_start shown shown_behind own pgbouncer unlike meaning zero
-example comment arm begins_line""".split())
+example proposed comment arm begins_line""".split())
 
 # what most numbers are: of them `pgsess check` needn't say what they take
 MOST_NUMBERS = (0, 2 ** 31 - 1)
