@@ -12,8 +12,8 @@ use pool_desk::desk::Desk;
 use pool_tests::worker_parts::{TestRuntime, key, limits};
 use std::alloc::{AllocError, Global};
 use std::rt::Clock;
-use std::sync::atomic::{AtomicBool, Ordering};
 use std::sync::Wait;
+use std::sync::atomic::{AtomicBool, Ordering};
 use std::thread::sleep;
 use std::time::Duration;
 
