@@ -1,6 +1,10 @@
-"""The crates of crates.txt, and which stand on which."""
+"""The crates of crates.txt, which stand on which, and what the kit's rt makes of them."""
+import importlib.machinery
+import importlib.util
 import pathlib
 import re
+import shutil
+import sys
 
 ROOT = pathlib.Path(__file__).resolve().parent.parent
 PARTS = ("src", "specs", "proofs")
@@ -26,3 +30,19 @@ def below(name, crates):
     for it in crates[name][0]:
         found += [deeper for deeper in [*below(it, crates), it] if deeper not in found]
     return found
+
+
+def inside_of_rt(name):
+    """A module of the kit that rt is made of: `rtlib`, or `rt` itself."""
+    found = shutil.which("rt")
+    if not found:
+        sys.exit("rt isn't in PATH: install the Rattle kit first (rt version)")
+    folder = pathlib.Path(found).resolve().parent
+    path = next(it for it in (folder / f"{name}.py", folder / name) if it.exists())
+    loader = importlib.machinery.SourceFileLoader(name, str(path))
+    module = importlib.util.module_from_spec(importlib.util.spec_from_loader(name, loader))
+    sys.modules[name] = module
+    sys.path.insert(0, str(folder))
+    sys.dont_write_bytecode = True
+    loader.exec_module(module)
+    return module

@@ -20,8 +20,6 @@ RT_JOBS says how many checks run side by side; else tools/jobs.sh does.
 """
 import collections
 import concurrent.futures
-import importlib.machinery
-import importlib.util
 import os
 import pathlib
 import re
@@ -31,7 +29,7 @@ import sys
 import tempfile
 import time
 
-from crates import ROOT, below, listed
+from crates import ROOT, below, inside_of_rt, listed
 
 PARTS = ("src", "specs", "proofs")
 # where an item begins: how far in, its name if it is a function, and whether functions stand in it
@@ -347,17 +345,6 @@ class Crate:
 
 # ---- the libraries below
 
-def inside_of_rt():
-    """The module of `rt` that knows crates and their stamps."""
-    path = os.path.join(os.path.dirname(os.path.realpath(shutil.which("rt"))), "rtlib.py")
-    loader = importlib.machinery.SourceFileLoader("rtlib", path)
-    rtlib = importlib.util.module_from_spec(importlib.util.spec_from_loader("rtlib", loader))
-    sys.modules["rtlib"] = rtlib
-    sys.dont_write_bytecode = True
-    loader.exec_module(rtlib)
-    return rtlib
-
-
 def made_at(crate):
     """When a library was made, if it was."""
     made = pathlib.Path(crate.rlib) / "format"
@@ -390,7 +377,7 @@ def main(names):
     if unknown:
         sys.exit(f"wrong: crates.txt names no crate {unknown[0]}")
     jobs = int(subprocess.run([ROOT / "tools/jobs.sh"], stdout=subprocess.PIPE, text=True, check=True).stdout)
-    rtlib = inside_of_rt()
+    rtlib = inside_of_rt("rtlib")
     tried = [Crate(it, crates, rtlib) for it in names or crates]
     tried = [it for it in tried if it.edits]
     taken = take_over(rtlib)
