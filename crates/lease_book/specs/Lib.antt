@@ -1,3 +1,4 @@
 pub mod Histories
 pub mod Links
 pub mod Shown
+pub mod Kinds

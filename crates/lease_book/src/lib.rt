@@ -7,6 +7,7 @@
 
 mod base;
 pub mod book;
+mod event_kinds;
 pub mod events;
 mod ghost_event;
 pub mod history;
