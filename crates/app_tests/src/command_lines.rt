@@ -1,5 +1,5 @@
 //! The command line.
-use pool_app::line::{Job, LineFault, read_line};
+use pool_app::line::{Job, LineError, read_line};
 use std::alloc::{AllocError, Global};
 use std::test::Fail;
 
@@ -90,6 +90,6 @@ fn statuses_of_the_line(rt: HostRuntime) -> Result<(), Fail> {
             Err(fault) => assert_eq!(rt; fault.status(), want, "{text}"),
         }
     }
-    assert!(rt; LineFault::NoJob.status() == 2);
+    assert!(rt; LineError::NoJob.status() == 2);
     Ok(())
 }

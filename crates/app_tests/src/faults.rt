@@ -1,12 +1,12 @@
 //! The lines of faults, and key seeds.
-use pool_app::fault::{AppFault, fault_line, status};
+use pool_app::fault::{AppError, fault_line, status};
 use pool_app::files::{read_all, seed_of, settings_of, users_of};
-use session_catalogue::{CatalogueCause, CatalogueFault};
+use session_catalogue::{CatalogueCause, CatalogueError};
 use std::alloc::Global;
 use std::process::Abort;
 use std::test::Fail;
 
-fn check<A: Abort>(rt: &A, alloc: Global, rows: &[(AppFault<'_>, &str, u8)]) -> Result<(), Fail> {
+fn check<A: Abort>(rt: &A, alloc: Global, rows: &[(AppError<'_>, &str, u8)]) -> Result<(), Fail> {
     for (fault, text, want) in rows {
         let line = fault_line(alloc, fault)?;
         assert!(rt; line.as_str() == *text);
@@ -18,11 +18,11 @@ fn check<A: Abort>(rt: &A, alloc: Global, rows: &[(AppFault<'_>, &str, u8)]) -> 
 #[test]
 fn faults_of_settings_and_users(rt: HostRuntime) -> Result<(), Fail> {
     let ini = match settings_of(rt.alloc(), b"[pgbouncer]\n\n\n\n\n\nlisten_port = x\n") {
-        Ok(_) => AppFault::Memory,
+        Ok(_) => AppError::Memory,
         Err(fault) => fault,
     };
     let users = match users_of(rt.alloc(), b"\"a\" \"b\"\n\"a\" \"c\"") {
-        Ok(_) => AppFault::Memory,
+        Ok(_) => AppError::Memory,
         Err(fault) => fault,
     };
     let rows = [
@@ -32,8 +32,8 @@ fn faults_of_settings_and_users(rt: HostRuntime) -> Result<(), Fail> {
     check(&rt, rt.alloc(), &rows)
 }
 
-fn catalogue_fault<'a>(cause: CatalogueCause, line: usize) -> AppFault<'a> {
-    AppFault::Catalogue(CatalogueFault { cause, line })
+fn catalogue_fault<'a>(cause: CatalogueCause, line: usize) -> AppError<'a> {
+    AppError::Catalogue(CatalogueError { cause, line })
 }
 
 #[test]
@@ -66,14 +66,14 @@ fn faults_of_catalogues(rt: HostRuntime) -> Result<(), Fail> {
 #[test]
 fn other_faults(rt: HostRuntime) -> Result<(), Fail> {
     let rows = [
-        (AppFault::File("a b.ini"), "pgsess: file a b.ini", 1),
-        (AppFault::Stdin, "pgsess: stdin", 1),
-        (AppFault::Stdout, "pgsess: stdout", 1),
-        (AppFault::Memory, "pgsess: memory", 1),
-        (AppFault::Port(5432), "pgsess: port 5432", 3),
-        (AppFault::NoUserFile, "pgsess: no user file", 2),
+        (AppError::File("a b.ini"), "pgsess: file a b.ini", 1),
+        (AppError::Stdin, "pgsess: stdin", 1),
+        (AppError::Stdout, "pgsess: stdout", 1),
+        (AppError::Memory, "pgsess: memory", 1),
+        (AppError::Port(5432), "pgsess: port 5432", 3),
+        (AppError::NoUserFile, "pgsess: no user file", 2),
         (
-            AppFault::AuthFile(String::from_str(rt.alloc(), "a b.txt")?),
+            AppError::AuthFile(String::from_str(rt.alloc(), "a b.txt")?),
             "pgsess: file a b.txt",
             1,
         ),
@@ -84,8 +84,8 @@ fn other_faults(rt: HostRuntime) -> Result<(), Fail> {
 #[test]
 fn seeds_and_whole_reads(rt: HostRuntime) -> Result<(), Fail> {
     assert!(rt; seed_of("k", &[7; 32]) == Ok([7; 32]));
-    assert!(rt; seed_of("k", &[7; 31]) == Err(AppFault::File("k")));
-    assert!(rt; seed_of("k", &[7; 33]) == Err(AppFault::File("k")));
+    assert!(rt; seed_of("k", &[7; 31]) == Err(AppError::File("k")));
+    assert!(rt; seed_of("k", &[7; 33]) == Err(AppError::File("k")));
     let bytes = b"abcd";
     match read_all(rt.alloc(), bytes.as_slice(), 4) {
         Ok(all) => assert!(rt; all.as_slice() == bytes.as_slice()),

@@ -1,5 +1,5 @@
 //! Faults of the settings file and the lines that they are told with.
-use ini_config::{IniCause, IniFault, read_settings};
+use ini_config::{IniCause, IniError, read_settings};
 use std::alloc::Global;
 use std::process::Abort;
 use std::test::Fail;
@@ -316,7 +316,7 @@ fn a_fault_shows_as_code_and_line(rt: HostRuntime) -> Result<(), Fail> {
         (IniCause::Memory, "C8 line 7"),
     ];
     for (cause, text) in shown {
-        let fault = IniFault { cause, line: 7 };
+        let fault = IniError { cause, line: 7 };
         let line = format!(in rt.alloc(); "{fault}")?;
         assert!(rt; line.as_str() == text);
     }

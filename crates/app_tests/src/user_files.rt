@@ -2,7 +2,7 @@
 use std::alloc::Global;
 use std::fmt::Debug;
 use std::test::Fail;
-use user_file::{Secret, UserCause, UserFault, UserRow, UserTable, read_users};
+use user_file::{Secret, UserCause, UserError, UserRow, UserTable, read_users};
 
 fn fault(alloc: Global, text: &[u8]) -> Option<(UserCause, usize)> {
     match read_users(alloc, text) {
@@ -107,7 +107,7 @@ fn a_fault_shows_as_code_and_line(rt: HostRuntime) -> Result<(), Fail> {
         (UserCause::Memory, "U3 line 7"),
     ];
     for (cause, text) in rows {
-        let fault = UserFault { cause, line: 7 };
+        let fault = UserError { cause, line: 7 };
         let line = format!(in rt.alloc(); "{fault}")?;
         assert!(rt; line.as_str() == text);
     }

@@ -1,5 +1,5 @@
 //! Frames and first packets, cut out of bytes.
-use frame_view::{FirstStep, Frame, FrameFault, Side, Step, first_packet, next_frame};
+use frame_view::{FirstStep, Frame, FrameError, Side, Step, first_packet, next_frame};
 
 /// A client's first packet: user ann, database shop.
 const STARTUP: [u8; 32] = *b"\0\0\0\x20\0\x03\0\0user\0ann\0database\0shop\0\0";
@@ -21,7 +21,7 @@ fn cuts_a_frame_out(rt: HostRuntime) {
         (0, 5, whole),
         (6, 5, Step::Need(2)),
         (9, 5, Step::Need(5)),
-        (0, 4, Step::Bad(FrameFault::TooLong)),
+        (0, 4, Step::Bad(FrameError::TooLong)),
     ] {
         assert!(rt;
             next_frame(&QUERY, from, limit, Side::Client) == step,
@@ -42,16 +42,16 @@ fn asks_for_what_is_missing(rt: HostRuntime) {
 #[test]
 fn tells_the_first_fault(rt: HostRuntime) {
     for (length, step) in [
-        (3, Step::Bad(FrameFault::TooShort)),
-        (11, Step::Bad(FrameFault::TooLong)),
+        (3, Step::Bad(FrameError::TooShort)),
+        (11, Step::Bad(FrameError::TooLong)),
         (10, Step::Need(6)),
     ] {
         let bytes = [b'Z', 0, 0, 0, length];
-        assert!(rt; next_frame(&bytes, 0, 10, Side::Client) == Step::Bad(FrameFault::UnknownType));
+        assert!(rt; next_frame(&bytes, 0, 10, Side::Client) == Step::Bad(FrameError::UnknownType));
         assert!(rt; next_frame(&bytes, 0, 10, Side::Server) == step);
     }
     // a length that is too short is told first, where the limit is lower still
-    let fault = Step::Bad(FrameFault::TooShort);
+    let fault = Step::Bad(FrameError::TooShort);
     assert!(rt; next_frame(b"Q\0\0\0\x03", 0, 2, Side::Client) == fault);
     // nothing is told below five bytes
     assert!(rt; next_frame(b"Z\0\0\0", 0, 10, Side::Client) == Step::Need(1));
@@ -81,18 +81,18 @@ fn asks_for_the_rest_of_a_first_packet(rt: HostRuntime) {
 fn refuses_first_packets(rt: HostRuntime) {
     // lengths 7, 10,001 and 10,000, told from four bytes on
     for (length, step) in [
-        (7_u32, FirstStep::Bad(FrameFault::TooShort)),
-        (10_001, FirstStep::Bad(FrameFault::TooLong)),
+        (7_u32, FirstStep::Bad(FrameError::TooShort)),
+        (10_001, FirstStep::Bad(FrameError::TooLong)),
         (10_000, FirstStep::Need(4)),
     ] {
         assert!(rt; first_packet(&length.to_be_bytes()) == step);
     }
     // a wrong length for its code, and protocol 2.0, told from eight on
     for (packet, fault) in [
-        (b"\0\0\0\x09\x04\xd2\x16\x2f", FrameFault::TooShort),
-        (b"\0\0\0\x09\x04\xd2\x16\x30", FrameFault::TooShort),
-        (b"\0\0\0\x11\x04\xd2\x16\x2e", FrameFault::TooShort),
-        (b"\0\0\0\x20\0\x02\0\0", FrameFault::UnknownCode),
+        (b"\0\0\0\x09\x04\xd2\x16\x2f", FrameError::TooShort),
+        (b"\0\0\0\x09\x04\xd2\x16\x30", FrameError::TooShort),
+        (b"\0\0\0\x11\x04\xd2\x16\x2e", FrameError::TooShort),
+        (b"\0\0\0\x20\0\x02\0\0", FrameError::UnknownCode),
     ] {
         assert!(rt; first_packet(&packet[..7]) == FirstStep::Need(1));
         assert!(rt; first_packet(packet) == FirstStep::Bad(fault));

@@ -1,5 +1,5 @@
 //! Streams of frames in parts, cut into pieces.
-use frame_view::{FrameFault, Part, PartCursor, Side};
+use frame_view::{FrameError, Part, PartCursor, Side};
 
 /// A Query of the text `ABC`, and a Flush, which has no body.
 const STREAM: [u8; 14] = *b"Q\0\0\0\x08ABC\0H\0\0\0\x04";
@@ -87,7 +87,7 @@ fn tells_borders(rt: HostRuntime) {
 
 /// Whether a head with this type and length, whose bytes come in one piece and in two, is this fault
 /// under the limit 8, then and for ever.
-fn is_faulty(side: Side, kind: u8, length: u8, fault: FrameFault) -> bool {
+fn is_faulty(side: Side, kind: u8, length: u8, fault: FrameError) -> bool {
     let head = [kind, 0, 0, 0, length];
     let bad = Part::Bad(fault);
     let mut whole = PartCursor::new(8, side);
@@ -107,8 +107,8 @@ fn is_faulty(side: Side, kind: u8, length: u8, fault: FrameFault) -> bool {
 
 #[test]
 fn tells_faults(rt: HostRuntime) {
-    assert!(rt; is_faulty(Side::Client, b'Q', 3, FrameFault::TooShort));
-    assert!(rt; is_faulty(Side::Client, b'Q', 9, FrameFault::TooLong));
-    assert!(rt; is_faulty(Side::Client, b'Z', 3, FrameFault::UnknownType));
-    assert!(rt; is_faulty(Side::Server, b'Z', 3, FrameFault::TooShort));
+    assert!(rt; is_faulty(Side::Client, b'Q', 3, FrameError::TooShort));
+    assert!(rt; is_faulty(Side::Client, b'Q', 9, FrameError::TooLong));
+    assert!(rt; is_faulty(Side::Client, b'Z', 3, FrameError::UnknownType));
+    assert!(rt; is_faulty(Side::Server, b'Z', 3, FrameError::TooShort));
 }

@@ -2,7 +2,7 @@
 use message_view::{
     AuthView, BindView, CloseView, DataRowView, DescribeView, ExecuteView, KeyView, NoteView,
     ParseView, PasswordView, QueryView, ReadyView, RowDescView, StartupView, Status, StatusView,
-    TagView, Target, ViewFault,
+    TagView, Target, ViewError,
 };
 
 fn slice(bytes: &[u8]) -> &[u8] {
@@ -28,10 +28,10 @@ fn reads_pairs(rt: HostRuntime) {
 fn refuses_malformed_pairs(rt: HostRuntime) {
     for (body, fault) in [
         (slice(b"\0"), None),
-        (slice(b""), Some(ViewFault::NoZero)),
-        (slice(b"user\0ann\0"), Some(ViewFault::NoZero)),
-        (slice(b"user\0ann"), Some(ViewFault::NoZero)),
-        (slice(b"user\0ann\0\0\0"), Some(ViewFault::LeftOver)),
+        (slice(b""), Some(ViewError::NoZero)),
+        (slice(b"user\0ann\0"), Some(ViewError::NoZero)),
+        (slice(b"user\0ann"), Some(ViewError::NoZero)),
+        (slice(b"user\0ann\0\0\0"), Some(ViewError::LeftOver)),
     ] {
         assert!(rt; StartupView::read(body).err() == fault);
     }
@@ -73,18 +73,18 @@ fn refuses_a_malformed_bind(rt: HostRuntime) {
     // bytes left over, a count of 65535, a length of -2, and each shorter body
     let mut longer = [0; 26];
     longer[..25].copy_from_slice(&BIND);
-    assert!(rt; BindView::read(&longer).err() == Some(ViewFault::LeftOver));
+    assert!(rt; BindView::read(&longer).err() == Some(ViewError::LeftOver));
     let mut many = BIND;
     many[5..7].copy_from_slice(b"\xff\xff");
-    assert!(rt; BindView::read(&many).err() == Some(ViewFault::TooShort));
+    assert!(rt; BindView::read(&many).err() == Some(ViewError::TooShort));
     let mut below = BIND;
     below[15..19].copy_from_slice(b"\xff\xff\xff\xfe");
-    assert!(rt; BindView::read(&below).err() == Some(ViewFault::BadLength));
+    assert!(rt; BindView::read(&below).err() == Some(ViewError::BadLength));
     for size in 0..25 {
         let fault = if size < 3 {
-            ViewFault::NoZero
+            ViewError::NoZero
         } else {
-            ViewFault::TooShort
+            ViewError::TooShort
         };
         assert!(rt; BindView::read(&BIND[..size]).err() == Some(fault));
     }
@@ -106,9 +106,9 @@ fn reads_texts(rt: HostRuntime) {
     );
     assert!(rt; matches!(TagView::read(b"SET\0"), Ok(TagView { tag: b"SET" })));
     for (body, fault) in [
-        (slice(b"a"), ViewFault::NoZero),
-        (slice(b""), ViewFault::NoZero),
-        (slice(b"a\0b\0"), ViewFault::LeftOver),
+        (slice(b"a"), ViewError::NoZero),
+        (slice(b""), ViewError::NoZero),
+        (slice(b"a\0b\0"), ViewError::LeftOver),
     ] {
         assert!(rt; QueryView::read(body).err() == Some(fault));
     }
@@ -127,7 +127,7 @@ fn reads_a_parse(rt: HostRuntime) {
 #[test]
 fn refuses_a_cut_parse(rt: HostRuntime) {
     let cut = ParseView::read(b"s\0SELECT 1\0\0\x02\0\0\0\x19\0\0\0");
-    assert!(rt; cut.err() == Some(ViewFault::TooShort));
+    assert!(rt; cut.err() == Some(ViewError::TooShort));
 }
 
 #[test]
@@ -149,9 +149,9 @@ fn reads_targets(rt: HostRuntime) {
         )
     );
     for (body, fault) in [
-        (slice(b""), ViewFault::TooShort),
-        (slice(b"Xs\0"), ViewFault::TooShort),
-        (slice(b"S"), ViewFault::NoZero),
+        (slice(b""), ViewError::TooShort),
+        (slice(b"Xs\0"), ViewError::TooShort),
+        (slice(b"S"), ViewError::NoZero),
     ] {
         assert!(rt; CloseView::read(body).err() == Some(fault));
     }
@@ -164,7 +164,7 @@ fn reads_an_execute(rt: HostRuntime) {
     };
     assert!(rt; (view.portal, view.limit) == (slice(b"p"), -1));
     let cut = ExecuteView::read(b"p\0\0\0\0");
-    assert!(rt; cut.err() == Some(ViewFault::TooShort));
+    assert!(rt; cut.err() == Some(ViewError::TooShort));
 }
 
 #[test]
@@ -178,7 +178,7 @@ fn reads_an_authentication(rt: HostRuntime) {
             })
         )
     );
-    assert!(rt; AuthView::read(b"\0\0\0").err() == Some(ViewFault::TooShort));
+    assert!(rt; AuthView::read(b"\0\0\0").err() == Some(ViewError::TooShort));
 }
 
 #[test]
@@ -186,7 +186,7 @@ fn reads_a_key(rt: HostRuntime) {
     let key = KeyView { pid: 1, secret: 2 };
     assert!(rt; KeyView::read(b"\0\0\0\x01\0\0\0\x02") == Ok(key));
     let longer = KeyView::read(b"\0\0\0\x01\0\0\0\x02\0");
-    assert!(rt; longer == Err(ViewFault::LeftOver));
+    assert!(rt; longer == Err(ViewError::LeftOver));
 }
 
 #[test]
@@ -196,7 +196,7 @@ fn reads_a_parameter_status(rt: HostRuntime) {
     };
     assert!(rt; (view.name, view.setting) == (slice(b"TimeZone"), slice(b"UTC")));
     let cut = StatusView::read(b"TimeZone\0UTC");
-    assert!(rt; cut.err() == Some(ViewFault::NoZero));
+    assert!(rt; cut.err() == Some(ViewError::NoZero));
 }
 
 #[test]
@@ -220,9 +220,9 @@ fn reads_a_ready_for_query(rt: HostRuntime) {
                 status: Status::Failed,
             }),
         ),
-        (slice(b"X"), Err(ViewFault::TooShort)),
-        (slice(b""), Err(ViewFault::TooShort)),
-        (slice(b"II"), Err(ViewFault::LeftOver)),
+        (slice(b"X"), Err(ViewError::TooShort)),
+        (slice(b""), Err(ViewError::TooShort)),
+        (slice(b"II"), Err(ViewError::LeftOver)),
     ] {
         assert!(rt; ReadyView::read(body) == read);
     }
@@ -254,5 +254,5 @@ fn reads_a_description(rt: HostRuntime) {
 
 #[test]
 fn refuses_a_cut_note(rt: HostRuntime) {
-    assert!(rt; NoteView::read(b"Sx\0").err() == Some(ViewFault::TooShort));
+    assert!(rt; NoteView::read(b"Sx\0").err() == Some(ViewError::TooShort));
 }

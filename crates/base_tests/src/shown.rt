@@ -1,6 +1,6 @@
 //! A statement as one line of text, and tables of texts with the lines that are wanted of them.
 use itoa::Buffer;
-use mini_sql::{Columns, Filter, Literal, Operand, Setting, SqlFault, Stmt, read_statement};
+use mini_sql::{Columns, Filter, Literal, Operand, Setting, SqlError, Stmt, read_statement};
 use std::alloc::Global;
 use std::process::Abort;
 use std::test::Fail;
@@ -9,7 +9,7 @@ use std::test::Fail;
 fn shown(alloc: Global, text: &[u8]) -> Result<Vec<u8>, Fail> {
     let mut line = Vec::new(alloc);
     match read_statement(text) {
-        Err(SqlFault::Syntax) => line.extend_from_slice(b"syntax")?,
+        Err(SqlError::Syntax) => line.extend_from_slice(b"syntax")?,
         Ok(stmt) => put_stmt(&mut line, &stmt)?,
     }
     Ok(line)

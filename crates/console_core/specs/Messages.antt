@@ -4,7 +4,7 @@ use Rattle.frame_view.specs.Frames.{FrameOf}
 use Rattle.frame_view.specs.declared.client.TheConstants.{FLUSH, QUERY, SYNC, TERMINATE}
 use Rattle.message_view.specs.Messages.{backend_key_data, parameter_status}
 use Rattle.message_view.specs.Reading.{query_of}
-use Rattle.message_view.specs.declared.ViewFault.{ViewFault}
+use Rattle.message_view.specs.declared.ViewError.{ViewError}
 use Rattle.mini_sql.specs.Words.{Text}
 use Rattle.session_values.specs.declared.cause.Cause.TheVariants.{MalformedMessage, NotSupported}
 use Rattle.session_values.specs.Errors.{error}
@@ -27,7 +27,7 @@ pub data Response : Type 0 where
   -- nothing: the client leaves
   Leave : Response
 
-abbrev pub query_response : Result Text ViewFault → Response
+abbrev pub query_response : Result Text ViewError → Response
 query_response (Ok command) = Answer command
 query_response (Err fault) = Frames (refused MalformedMessage) false
 

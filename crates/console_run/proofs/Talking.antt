@@ -3,8 +3,8 @@ use Rattle.std.proofs.Common.{◌≡◌, ◌⊎◌, inl, inr, ℕ, ◌+◌, ◌<
 use Rattle.std.specs.List.{flat_map}
 use Rattle.bytes.specs.Filled.{Filled}
 use Rattle.frame_view.specs.declared.Frame.{Frame}
-use Rattle.frame_view.specs.declared.FrameFault.{FrameFault}
-use Rattle.frame_view.specs.declared.FrameFault.TheVariants as fault
+use Rattle.frame_view.specs.declared.FrameError.{FrameError}
+use Rattle.frame_view.specs.declared.FrameError.TheVariants as fault
 use Rattle.frame_view.specs.declared.Side.TheVariants.{Client}
 use Rattle.frame_view.specs.declared.Step.{Step}
 use Rattle.frame_view.specs.declared.Step.TheVariants.{Whole, Bad}
@@ -197,7 +197,7 @@ message_left law s v frame p q b w t h = go (front Client s.settings.max_packet_
     go (Lacks n) e k = absurd k
     go (Faulty f) e k = absurd k
 
-is_faulty : (limit : ℕ) (held : List ℕ) (f : FrameFault) → Tells (Bad f) held (front Client limit held) → IsFaulty limit held (refused_by f)
+is_faulty : (limit : ℕ) (held : List ℕ) (f : FrameError) → Tells (Bad f) held (front Client limit held) → IsFaulty limit held (refused_by f)
 is_faulty limit held f t = go (front Client limit held) refl t
   where
     go : (x : Front) → front Client limit held ≡ x → Tells (Bad f) held x → IsFaulty limit held (refused_by f)
@@ -205,13 +205,13 @@ is_faulty limit held f t = go (front Client limit held) refl t
     go (Lacks n) e k = absurd k
     go (Faulty other) e k = record { fault = other; stands = e; refusal = ap refused_by (sym k) }
 
-faulty_refused : (limit : ℕ) (held : List ℕ) (f : FrameFault) (p q : Pass) → q ≡ p → IsFaulty limit held (refused_by f) → IsRefused limit held (refused_by f) p q
+faulty_refused : (limit : ℕ) (held : List ℕ) (f : FrameError) (p q : Pass) → q ≡ p → IsFaulty limit held (refused_by f) → IsRefused limit held (refused_by f) p q
 faulty_refused limit held fault.TooLong p q e h = (h, e)
 faulty_refused limit held fault.TooShort p q e h = (h, e)
 faulty_refused limit held fault.UnknownType p q e h = (h, e)
 faulty_refused limit held fault.UnknownCode p q e h = (h, e)
 
-message_faulty : (s : Asker) (v : TalkView) (p q : Pass) (f : FrameFault) → v.unwritten ≡ [] → Tells (Bad f) v.held (front Client s.settings.max_packet_size v.held) → q ≡ p → IsRefusedAt s v v p q (refused_by f)
+message_faulty : (s : Asker) (v : TalkView) (p q : Pass) (f : FrameError) → v.unwritten ≡ [] → Tells (Bad f) v.held (front Client s.settings.max_packet_size v.held) → q ≡ p → IsRefusedAt s v v p q (refused_by f)
 message_faulty s v p q f w t e = record { at = p; goes = goes_none s v p; written = w; refused = faulty_refused s.settings.max_packet_size v.held f p q e (is_faulty s.settings.max_packet_size v.held f t) }
 
 -- ---- the same by what was found
@@ -238,7 +238,7 @@ heard_early s old new message x p q t w h i k = read_turned s old new p q t w k 
 pub heard_refused : (s : Asker) (v : TalkView) (r : Refusal) (message : Response) (x : Answered) (p q : Pass) → v.unwritten ≡ [] → HasResponded s message x p q → x ≡ answered.Refused r → IsRefusedAt s v v p q r
 heard_refused s v r message x p q w h i = message_refused s v p q r w (subst (λ (y : Answered). HasResponded s message y p q) i h)
 
-pub heard_faulty : (s : Asker) (v : TalkView) (bytes : List ℕ) (f : FrameFault) (limit : ℕ) (r : Refusal) (p : Pass) → v.unwritten ≡ [] → limit ≡ s.settings.max_packet_size → bytes ≡ v.held → Tells (Bad f) bytes (front Client limit bytes) → r ≡ refused_by f → IsRefusedAt s v v p p r
+pub heard_faulty : (s : Asker) (v : TalkView) (bytes : List ℕ) (f : FrameError) (limit : ℕ) (r : Refusal) (p : Pass) → v.unwritten ≡ [] → limit ≡ s.settings.max_packet_size → bytes ≡ v.held → Tells (Bad f) bytes (front Client limit bytes) → r ≡ refused_by f → IsRefusedAt s v v p p r
 heard_faulty s v bytes f limit r p w m e t i = subst (λ (x : Refusal). IsRefusedAt s v v p p x) (sym i) (message_faulty s v p p f w (same_tells (Bad f) limit s.settings.max_packet_size bytes v.held m e t) refl)
 
 -- ---- the whole talk

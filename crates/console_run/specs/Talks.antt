@@ -1,8 +1,8 @@
 -- A talk with a client of the console.
 use Rattle.std.specs.Prelude.{◌≡◌, ◌⊎◌, ℕ, ◌+◌, ◌<◌, ◌≤◌, Bool, true, false, List, [], ◌++◌, length, Option, Some, None}
 use Rattle.std.specs.List.{flat_map}
-use Rattle.frame_view.specs.declared.FrameFault.{FrameFault}
-use Rattle.frame_view.specs.declared.FrameFault.TheVariants.{TooLong}
+use Rattle.frame_view.specs.declared.FrameError.{FrameError}
+use Rattle.frame_view.specs.declared.FrameError.TheVariants.{TooLong}
 use Rattle.frame_view.specs.declared.Side.TheVariants.{Client}
 use Rattle.frame_view.specs.Frames.{Faulty, FrameOf, IsFrame, front, spelling}
 use Rattle.message_view.specs.declared.KeyWord.{KeyWord}
@@ -17,13 +17,13 @@ use Rattle.console_run.specs.Exchanges.{AreAnswered, Asker, Exchange, after_exch
 
 -- ---- by what a client is refused
 
-abbrev pub refused_by : FrameFault → Refusal
+abbrev pub refused_by : FrameError → Refusal
 refused_by TooLong = ClientMessageTooLong
 refused_by _ = MalformedClientMessage
 
 -- what stands next can't become a message under the limit, by a fault of this refusal
 pub record IsFaulty (limit : ℕ) (held : List ℕ) (r : Refusal) : Type 0 where
-  pub fault : FrameFault
+  pub fault : FrameError
   pub stands : front Client limit held ≡ Faulty fault
   pub refusal : refused_by fault ≡ r
 

@@ -10,7 +10,7 @@ ghost use Rattle.console_run.specs.Turns.{HasRead, HasTurned, HasWritten, greete
 use crate::answering::{Answered, Console};
 use bytes::{Buf, BytesMut};
 use frame_view::laws::{are_bytes, front_is_spelled};
-use frame_view::{FrameFault, Side, Step, next_frame};
+use frame_view::{FrameError, Side, Step, next_frame};
 use ini_config::ConsoleStyle;
 use link_desk::desk::LinkDesk;
 use message_view::{KeyWord, Refusal, put_authentication_ok};
@@ -74,12 +74,12 @@ fn greeting(alloc: Global, style: ConsoleStyle, word: KeyWord) -> Result<BytesMu
 }
 
 /// By what a client is refused whose message has this fault.
-fn refused_by(fault: FrameFault) -> Refusal
+fn refused_by(fault: FrameError) -> Refusal
     ensures { result ≡ talks.refused_by fault }
 {
     match fault {
-        FrameFault::TooLong => Refusal::ClientMessageTooLong,
-        FrameFault::UnknownCode | FrameFault::UnknownType | FrameFault::TooShort =>
+        FrameError::TooLong => Refusal::ClientMessageTooLong,
+        FrameError::UnknownCode | FrameError::UnknownType | FrameError::TooShort =>
             Refusal::MalformedClientMessage,
     }
 }

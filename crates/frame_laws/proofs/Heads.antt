@@ -2,20 +2,20 @@
 use Rattle.std.proofs.Common.{◌≡◌, ℕ, ◌+◌, ◌-◌, ◌<◌, ◌≤◌, Bool, true, false, List, [], ◌∷◌, ◌++◌, length, take, refl, ap, ◌∙◌, arith, Option, Some, None}
 use Rattle.std.specs.Prelude.{nat_lt, if◌then◌else◌}
 use Rattle.std.proofs.lemmas.Bool.{ltb-false}
-use Rattle.frame_view.specs.declared.FrameFault.{FrameFault}
-use Rattle.frame_view.specs.declared.FrameFault.TheVariants.{TooShort, TooLong, UnknownType}
+use Rattle.frame_view.specs.declared.FrameError.{FrameError}
+use Rattle.frame_view.specs.declared.FrameError.TheVariants.{TooShort, TooLong, UnknownType}
 use Rattle.frame_view.specs.declared.Side.{Side}
 use Rattle.frame_view.specs.Frames.{AHead, LacksHead, FaultyHead, head_front, head_fault, at_head, is_type, number}
 
-at-whole : (x : Option FrameFault) (kind len k l : ℕ) (rest r : List ℕ) → at_head x kind len rest ≡ AHead k l r → (more : List ℕ) → (at_head x kind len more ≡ AHead k l more) × (rest ≡ r)
+at-whole : (x : Option FrameError) (kind len k l : ℕ) (rest r : List ℕ) → at_head x kind len rest ≡ AHead k l r → (more : List ℕ) → (at_head x kind len more ≡ AHead k l more) × (rest ≡ r)
 at-whole None kind len k l rest r e more = (cc, cc)
 at-whole (Some fault) kind len k l rest r e more = absurd cc
 
-at-faulty : (x : Option FrameFault) (kind len : ℕ) (fault : FrameFault) (rest more : List ℕ) → at_head x kind len rest ≡ FaultyHead fault → at_head x kind len more ≡ FaultyHead fault
+at-faulty : (x : Option FrameError) (kind len : ℕ) (fault : FrameError) (rest more : List ℕ) → at_head x kind len rest ≡ FaultyHead fault → at_head x kind len more ≡ FaultyHead fault
 at-faulty None kind len fault rest more e = absurd cc
 at-faulty (Some other) kind len fault rest more e = cc
 
-at-lacks : (x : Option FrameFault) (kind len n : ℕ) (rest : List ℕ) → at_head x kind len rest ≡ LacksHead n → ⊥
+at-lacks : (x : Option FrameError) (kind len n : ℕ) (rest : List ℕ) → at_head x kind len rest ≡ LacksHead n → ⊥
 at-lacks None kind len n rest e = absurd cc
 at-lacks (Some fault) kind len n rest e = absurd cc
 
@@ -49,7 +49,7 @@ heads-lawful side limit k l r short e = absurd cc
 
 -- ---- a fault, and less than a head
 
-pub faults-grow : (side : Side) (limit : ℕ) (fault : FrameFault) (bytes more : List ℕ) → head_front side limit bytes ≡ FaultyHead fault → head_front side limit (bytes ++ more) ≡ FaultyHead fault
+pub faults-grow : (side : Side) (limit : ℕ) (fault : FrameError) (bytes more : List ℕ) → head_front side limit bytes ≡ FaultyHead fault → head_front side limit (bytes ++ more) ≡ FaultyHead fault
 faults-grow side limit fault (kind ∷ a ∷ b ∷ c ∷ d ∷ rest) more e = at-faulty (head_fault side limit kind (number a b c d)) kind (number a b c d) fault rest (rest ++ more) e
 faults-grow side limit fault short more e = absurd cc
 

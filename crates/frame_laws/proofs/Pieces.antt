@@ -5,7 +5,7 @@ use Rattle.std.specs.List.{flat_map}
 use Rattle.std.proofs.lemmas.Bool.{leb-true, leb-false, lt-ltb}
 use Rattle.std.proofs.lemmas.List.{append-nil, take-append-drop}
 use Rattle.frame_view.specs.declared.Side.{Side}
-use Rattle.frame_view.specs.declared.FrameFault.{FrameFault}
+use Rattle.frame_view.specs.declared.FrameError.{FrameError}
 use Rattle.frame_view.specs.Frames.{HeadFront, AHead, LacksHead, FaultyHead, head_front, FrameOf, Stops, front, frames, with_body}
 use Rattle.frame_view.specs.Parts.{Body, Bad, PlaceOf, AtHead, InBody, AtFault, TurnOf, turn, of_head, of_less}
 use Rattle.frame_view.proofs.Splitting.{frames-stopped}
@@ -34,7 +34,7 @@ ahead-none j = ap (λ (t : List FrameOf). record { frames = t; after = j.after }
 stopped : (side : Side) (limit : ℕ) (bytes : List ℕ) → Stops (front side limit bytes) → shown_of side limit bytes ≡ record { frames = []; after = after_front (head_front side limit bytes) }
 stopped side limit bytes s = ap (shown side limit) (frames-stopped side limit bytes s)
 
-faulty : (side : Side) (limit : ℕ) (fault : FrameFault) (bytes : List ℕ) → head_front side limit bytes ≡ FaultyHead fault → shown_of side limit bytes ≡ record { frames = []; after = Breaks fault }
+faulty : (side : Side) (limit : ℕ) (fault : FrameError) (bytes : List ℕ) → head_front side limit bytes ≡ FaultyHead fault → shown_of side limit bytes ≡ record { frames = []; after = Breaks fault }
 faulty side limit fault bytes e =
     let s : Stops (front side limit bytes) = subst (λ (h : HeadFront). Stops (with_body h)) (sym e) tt in
     stopped side limit bytes s ∙ ap (λ (h : HeadFront). record { frames = []; after = after_front h }) e
@@ -59,7 +59,7 @@ record Going (side : Side) (limit : ℕ) (place : PlaceOf) (j : Joined) (expecte
   stands : Stands side limit place since j.after
   expects : (more : List ℕ) → expected more ≡ ahead j.frames (shown_of side limit (since ++ more))
 
-record Broken (fault : FrameFault) (j : Joined) (expected : List ℕ → Joined) : Type 0 where
+record Broken (fault : FrameError) (j : Joined) (expected : List ℕ → Joined) : Type 0 where
   broken : j.after ≡ Breaks fault
   stays : (more : List ℕ) → expected more ≡ j
 

@@ -1,6 +1,6 @@
 -- Parts of a stream, joined again, and what a cursor gives of pieces.
 use Rattle.std.specs.Prelude.{ℕ, zero, suc, ◌+◌, ◌*◌, ◌==◌, Bool, true, false, if◌then◌else◌, List, [], ◌∷◌, ◌++◌, length, drop}
-use Rattle.frame_view.specs.declared.FrameFault.{FrameFault}
+use Rattle.frame_view.specs.declared.FrameError.{FrameError}
 use Rattle.frame_view.specs.declared.Side.{Side}
 use Rattle.frame_view.specs.declared.frames.TheConstants.{LEAST_LENGTH}
 use Rattle.frame_view.specs.Frames.{FrameOf, HeadFront, AHead, LacksHead, FaultyHead, head_front, Cut}
@@ -11,7 +11,7 @@ use Rattle.frame_view.specs.Parts.{PartOf, Head, Body, End, Bad, PlaceOf, TurnOf
 pub data After : Type 0 where
   Nothing : After
   Begins : ℕ → ℕ → List ℕ → After
-  Breaks : FrameFault → After
+  Breaks : FrameError → After
   Disorder : After
 
 pub record Joined : Type 0 where

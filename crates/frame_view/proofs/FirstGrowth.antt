@@ -4,8 +4,8 @@ use Rattle.std.specs.Prelude.{nat_lt, if◌then◌else◌, ◌==◌}
 use Rattle.std.proofs.lemmas.Bool.{le-ltb, ltb-false, ltb-true}
 use Rattle.std.proofs.lemmas.List.{take-append-le, drop-append-le}
 use Rattle.frame_view.specs.declared.first.TheConstants.{PROTOCOL_3_0, CANCEL_REQUEST, SSL_REQUEST, GSSENC_REQUEST, LONGEST_FIRST_PACKET}
-use Rattle.frame_view.specs.declared.FrameFault.{FrameFault}
-use Rattle.frame_view.specs.declared.FrameFault.TheVariants.{TooShort, TooLong, UnknownCode}
+use Rattle.frame_view.specs.declared.FrameError.{FrameError}
+use Rattle.frame_view.specs.declared.FrameError.TheVariants.{TooShort, TooLong, UnknownCode}
 use Rattle.frame_view.specs.Frames.{number, FirstOf, Start, Cancels, AsksTls, AsksGss, first_spelling, FirstFront, AFirst, LacksFirst, FaultyFirst, after_code, cancel_of, at_code, first_front}
 use Rattle.frame_view.specs.Laws.{GrowsFirst}
 use Rattle.frame_view.proofs.FirstPackets.{after-code, after_code-whole, start-fits, cancel-fits, at_code-fits, first-fits}
@@ -21,7 +21,7 @@ first-lacks n new here more some own room = record {
   room = λ m e. let s : n ≡ m = cc in omega (arith, s, room);
 }
 
-first-faulty : (f : FrameFault) (here : ℕ) (more : List ℕ) → GrowsFirst (FaultyFirst f) (FaultyFirst f) here more
+first-faulty : (f : FrameError) (here : ℕ) (more : List ℕ) → GrowsFirst (FaultyFirst f) (FaultyFirst f) here more
 first-faulty f here more = record {
   whole = λ p r e. absurd cc;
   fits = λ p r e. absurd cc;

@@ -6,7 +6,7 @@ use Rattle.std.proofs.lemmas.Bool.{le-ltb, ltb-false, eqb-true}
 use Rattle.std.proofs.lemmas.List.{take-append-drop}
 use Rattle.std.proofs.Math.Seq.{take-append_seam, drop-append_seam}
 use Rattle.frame_view.specs.declared.first.TheConstants.{PROTOCOL_3_0, CANCEL_REQUEST, SSL_REQUEST, GSSENC_REQUEST, LONGEST_FIRST_PACKET}
-use Rattle.frame_view.specs.declared.FrameFault.TheVariants.{TooShort, TooLong, UnknownCode}
+use Rattle.frame_view.specs.declared.FrameError.TheVariants.{TooShort, TooLong, UnknownCode}
 use Rattle.frame_view.specs.Frames.{AreBytes, number, FirstOf, Start, Cancels, AsksTls, AsksGss, first_spelling, IsFirst, AFirst, LacksFirst, FaultyFirst, after_code, cancel_of, at_code, of_length, first_front}
 use Rattle.frame_view.proofs.FourBytes.{number-bytes, bytes-number}
 

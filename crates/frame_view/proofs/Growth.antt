@@ -4,8 +4,8 @@ use Rattle.std.specs.Prelude.{nat_lt, if◌then◌else◌}
 use Rattle.std.proofs.lemmas.Bool.{le-ltb, lt-ltb, ltb-false, ltb-true}
 use Rattle.std.proofs.lemmas.List.{take-append-le, drop-append-le}
 use Rattle.frame_view.specs.declared.Side.{Side}
-use Rattle.frame_view.specs.declared.FrameFault.{FrameFault}
-use Rattle.frame_view.specs.declared.FrameFault.TheVariants.{UnknownType, TooShort, TooLong}
+use Rattle.frame_view.specs.declared.FrameError.{FrameError}
+use Rattle.frame_view.specs.declared.FrameError.TheVariants.{UnknownType, TooShort, TooLong}
 use Rattle.frame_view.specs.Frames.{Front, AFrame, Lacks, Faulty, front, at_head, with_body, after_head, number, is_type}
 use Rattle.frame_view.specs.Laws.{Grows}
 use Rattle.frame_view.proofs.Cuts.{after-frame, front-fits}
@@ -22,7 +22,7 @@ grows-lacks limit n new here more some still own room = record {
   room = λ m e l. let s : n ≡ m = cc in omega (arith, s, room l);
 }
 
-grows-faulty : (limit : ℕ) (f : FrameFault) (here : ℕ) (more : List ℕ) → Grows limit (Faulty f) (Faulty f) here more
+grows-faulty : (limit : ℕ) (f : FrameError) (here : ℕ) (more : List ℕ) → Grows limit (Faulty f) (Faulty f) here more
 grows-faulty limit f here more = record {
   whole = λ k b r e. absurd cc;
   fits = λ k b r e. absurd cc;

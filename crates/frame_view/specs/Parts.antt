@@ -1,7 +1,7 @@
 -- A stream of frames in parts: what a cursor makes of the next piece of it, whatever its size.
 use Rattle.std.specs.Prelude.{ℕ, ◌-◌, ◌<◌, nat_le, ◌==◌, Bool, true, false, if◌then◌else◌, List, [], ◌++◌, length, take}
 use Rattle.std.specs.Borrow.{Bor}
-use Rattle.frame_view.specs.declared.FrameFault.{FrameFault}
+use Rattle.frame_view.specs.declared.FrameError.{FrameError}
 use Rattle.frame_view.specs.declared.Side.{Side}
 use Rattle.frame_view.specs.declared.part_cursor.Begun.{Begun}
 use Rattle.frame_view.specs.declared.part_cursor.Part.{Part}
@@ -19,14 +19,14 @@ pub data PartOf : Type 0 where
   Head : ℕ → ℕ → PartOf
   Body : List ℕ → Bool → PartOf
   End : PartOf
-  Bad : FrameFault → PartOf
+  Bad : FrameError → PartOf
 
 -- Where a cursor stands: at a head of which these bytes were taken, inside a frame of whose body so many
 -- bytes are to come, or at a head with this fault, of which these bytes were taken.
 pub data PlaceOf : Type 0 where
   AtHead : List ℕ → PlaceOf
   InBody : ℕ → PlaceOf
-  AtFault : List ℕ → FrameFault → PlaceOf
+  AtFault : List ℕ → FrameError → PlaceOf
 
 -- how many bytes of a piece are used, the part that they are, and the place after it
 pub record TurnOf : Type 0 where

@@ -5,7 +5,7 @@ ghost use Rattle.frame_view.specs.Answers.{LiesInFirst, TellsFirst};
 ghost use Rattle.frame_view.specs.Frames.{after_code, at_code, cancel_of, first_front, of_code, Start};
 
 use crate::numbers::number_at;
-use crate::{FirstStep, FrameFault};
+use crate::{FirstStep, FrameError};
 
 /// The code of a StartupMessage: protocol 3.0, its major and minor number in two bytes each.
 pub const PROTOCOL_3_0: u32 = 196_608;
@@ -63,8 +63,8 @@ fn code_at(length: u32, code: u32, rest: &[u8]) -> FirstStep<'_>
         CANCEL_REQUEST if length == CANCEL_LENGTH => cancel_at(rest),
         SSL_REQUEST if length == LEAST_FIRST_PACKET => FirstStep::Tls,
         GSSENC_REQUEST if length == LEAST_FIRST_PACKET => FirstStep::Gss,
-        CANCEL_REQUEST | SSL_REQUEST | GSSENC_REQUEST => FirstStep::Bad(FrameFault::TooShort),
-        _ => FirstStep::Bad(FrameFault::UnknownCode),
+        CANCEL_REQUEST | SSL_REQUEST | GSSENC_REQUEST => FirstStep::Bad(FrameError::TooShort),
+        _ => FirstStep::Bad(FrameError::UnknownCode),
     }
 }
 
@@ -82,9 +82,9 @@ fn length_at(length: u32, rest: &[u8]) -> FirstStep<'_>
 /// Reads a client's first packet from the front of `buf`.
 ///
 /// A StartupMessage's slice is that of `buf`, from its ninth byte on. A length below 8
-/// ([`FrameFault::TooShort`]) or above [`LONGEST_FIRST_PACKET`] ([`FrameFault::TooLong`]) is told once
-/// four bytes are there. Once eight are there, so is [`FrameFault::UnknownCode`], and
-/// [`FrameFault::TooShort`] for a CancelRequest whose length isn't 16 and an SSLRequest or
+/// ([`FrameError::TooShort`]) or above [`LONGEST_FIRST_PACKET`] ([`FrameError::TooLong`]) is told once
+/// four bytes are there. Once eight are there, so is [`FrameError::UnknownCode`], and
+/// [`FrameError::TooShort`] for a CancelRequest whose length isn't 16 and an SSLRequest or
 /// GSSENCRequest whose length isn't 8. Takes no memory.
 pub fn first_packet(buf: &[u8]) -> FirstStep<'_>
     ensures tells { TellsFirst result (first_front buf.now) }
@@ -95,10 +95,10 @@ pub fn first_packet(buf: &[u8]) -> FirstStep<'_>
     }
     let length = number_at(buf, 0);
     if length < LEAST_FIRST_PACKET {
-        return FirstStep::Bad(FrameFault::TooShort);
+        return FirstStep::Bad(FrameError::TooShort);
     }
     if length > LONGEST_FIRST_PACKET {
-        return FirstStep::Bad(FrameFault::TooLong);
+        return FirstStep::Bad(FrameError::TooLong);
     }
     length_at(length, &buf[NUMBER..])
 }

@@ -5,7 +5,7 @@ ghost use Rattle.frame_view.specs.Answers.{HasLawfulLength, LiesIn, Tells, Tells
 ghost use Rattle.frame_view.specs.Frames.{front, head_fault as fault_of_head, head_front, is_client_type, is_type};
 
 use crate::numbers::number_at;
-use crate::{Frame, FrameFault, Head, HeadStep, Side, Step, client};
+use crate::{Frame, FrameError, Head, HeadStep, Side, Step, client};
 
 /// The greatest length of a frame: that of a signed number of four bytes.
 pub const LONGEST_FRAME: u32 = 2_147_483_647;
@@ -47,17 +47,17 @@ fn is_kind(side: Side, kind: u8) -> bool
 }
 
 /// The first fault of a head with this type and length, if any, in the order of [`next_frame`].
-pub fn head_fault(kind: u8, length: u32, limit: u32, side: Side) -> Option<FrameFault>
+pub fn head_fault(kind: u8, length: u32, limit: u32, side: Side) -> Option<FrameError>
     ensures { result ≡ fault_of_head side limit kind length }
 {
     if !is_kind(side, kind) {
-        return Some(FrameFault::UnknownType);
+        return Some(FrameError::UnknownType);
     }
     if length < LEAST_LENGTH {
-        return Some(FrameFault::TooShort);
+        return Some(FrameError::TooShort);
     }
     if length > limit {
-        return Some(FrameFault::TooLong);
+        return Some(FrameError::TooLong);
     }
     None
 }
@@ -112,8 +112,8 @@ fn frame_at(bytes: &[u8], limit: u32, side: Side) -> Step<'_>
 ///
 /// A frame's slices are those of `buf`, at their place. `limit` is the greatest length that is
 /// accepted; the length counts its own four bytes and the body. A fault is told once five bytes are
-/// there, and of several the first of these: [`FrameFault::UnknownType`] (on the client's side alone),
-/// [`FrameFault::TooShort`] (a length below 4), [`FrameFault::TooLong`] (a length above `limit`).
+/// there, and of several the first of these: [`FrameError::UnknownType`] (on the client's side alone),
+/// [`FrameError::TooShort`] (a length below 4), [`FrameError::TooLong`] (a length above `limit`).
 /// Takes no memory.
 pub fn next_frame(buf: &[u8], from: usize, limit: u32, side: Side) -> Step<'_>
     requires { from ≤ length buf.now }

@@ -4,7 +4,7 @@ ghost use Rattle.frame_view.specs.Parts.{AtHead, HasPlace, LiesInPart, at_border
 ghost use Rattle.frame_view.specs.Frames.{head_front};
 
 use crate::frames::{HEAD, LEAST_LENGTH, head_at};
-use crate::{FrameFault, Head, HeadStep, Side};
+use crate::{FrameError, Head, HeadStep, Side};
 use std::marker::Model;
 
 /// A part of a stream of frames.
@@ -18,7 +18,7 @@ pub enum Part<'a> {
     /// The piece is used up.
     End,
     /// No frame stands here, whatever comes.
-    Bad(FrameFault),
+    Bad(FrameError),
 }
 
 /// The bytes of a head that were taken.
@@ -36,7 +36,7 @@ enum Place {
     /// Inside a frame, of whose body so many bytes are to come.
     Body(usize),
     /// At a head with this fault, of which these bytes were taken.
-    Fault(Begun, FrameFault),
+    Fault(Begun, FrameError),
 }
 
 /// What a call makes of a piece: how many of its bytes are used, the part that they are, and the place

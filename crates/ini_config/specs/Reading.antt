@@ -9,7 +9,7 @@ use Rattle.ini_config.specs.Tables.{row_named}
 use Rattle.ini_config.specs.declared.database_rows.DbRow.{DbRow}
 use Rattle.ini_config.specs.declared.faults.IniCause.{IniCause}
 use Rattle.ini_config.specs.declared.faults.IniCause.TheVariants as cause
-use Rattle.ini_config.specs.declared.faults.IniFault.{IniFault}
+use Rattle.ini_config.specs.declared.faults.IniError.{IniError}
 use Rattle.ini_config.specs.declared.lines.Section.{Section}
 use Rattle.ini_config.specs.declared.lines.Section.TheVariants.{Preamble, Databases, Pgbouncer, Users, Peers}
 use Rattle.ini_config.specs.declared.option_keys.Key.{Key}
@@ -114,7 +114,7 @@ abbrev pub keeps : Text → Bool
 keeps line = is_pair (said line)
 
 -- the settings that the lines spell, or the fault that is reported of them; line 0: out of memory before the first line, for the defaults
-abbrev pub IsReadOf : List Text → Result Settings IniFault → Type 0
+abbrev pub IsReadOf : List Text → Result Settings IniError → Type 0
 IsReadOf lines (Ok settings) =
     IsFaultless with_line fault_of empty_file lines × (settings ≡ (said_by with_line fault_of empty_file lines).settings)
 IsReadOf lines (Err fault) =

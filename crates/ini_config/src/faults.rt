@@ -35,7 +35,7 @@ pub enum IniCause {
 /// It shows as the code and the line, as in `C3 line 7`.
 #[derive(Clone, Copy, Debug, PartialEq, Eq, Error)]
 #[error("{cause} line {line}")]
-pub struct IniFault {
+pub struct IniError {
     pub cause: IniCause,
     /// Counted from 1; 0 where no memory was left for the defaults.
     pub line: usize,

@@ -19,7 +19,7 @@ mod values;
 pub use always_followed::is_always_followed;
 pub use database_rows::{DbRow, ServedRow};
 pub use database_values::takes_item;
-pub use faults::{IniCause, IniFault};
+pub use faults::{IniCause, IniError};
 pub use lines::{Line, Section, read_line};
 pub use name_lists::Names;
 pub use option_values::{AuthType, ConsoleStyle, Settings};

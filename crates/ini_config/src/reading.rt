@@ -5,7 +5,7 @@ ghost use Rattle.text_lines.specs.Lines.{lines as lines_of_file};
 ghost use Rattle.ini_config.specs.Reading as spec;
 
 use crate::database_values::read_row;
-use crate::faults::{IniCause, IniFault};
+use crate::faults::{IniCause, IniError};
 use crate::lines::{Line, Section, read_line};
 use crate::option_keys::{key_of, read_setting, refusal};
 use crate::option_values::Settings;
@@ -136,13 +136,13 @@ fn other_fault(section: Section) -> IniCause
 /// A line ends with LF or CR LF or the end of the file; spaces and tabs at its ends are dropped. Of several faults on one line the
 /// one with the lowest number is reported. Out of memory is reported with a line that has a key and a value (0: there was none for the
 /// defaults), and neither that line nor one before it has another fault.
-pub fn read_settings(alloc: Global, text: &[u8]) -> Result<Settings, IniFault>
+pub fn read_settings(alloc: Global, text: &[u8]) -> Result<Settings, IniError>
     ensures { spec.IsReadOf (lines_of_file text.now) result }
 {
     let mut reading = match Reading::empty(alloc) {
         Ok(reading) => reading,
         Err(_) => {
-            return Err(IniFault {
+            return Err(IniError {
                 cause: IniCause::Memory,
                 line: 0,
             });
@@ -152,7 +152,7 @@ pub fn read_settings(alloc: Global, text: &[u8]) -> Result<Settings, IniFault>
     for line in text.lines() {
         number += 1;
         if let Err(cause) = reading.take_line(alloc, trimmed(line)) {
-            return Err(IniFault {
+            return Err(IniError {
                 cause,
                 line: number,
             });

@@ -2,7 +2,7 @@
 use Rattle.std.proofs.Common.{◌≡◌, ℕ, zero, suc, ◌+◌, ◌<◌, ◌≤◌, List, [], ◌∷◌, length, Option, Some, None, Result, Ok, Err, subst, false, arith}
 use Rattle.std.specs.Prelude.{◌==◌}
 use Rattle.std.specs.List.{AllByRecursion}
-use Rattle.message_view.specs.declared.ViewFault.{ViewFault}
+use Rattle.message_view.specs.declared.ViewError.{ViewError}
 use Rattle.message_view.specs.Bodies.{HasNoZero}
 use Rattle.message_view.specs.Reading.{Part, ◌>>=◌, text_at, with_first, pair_named, pair_at, and_more, list_until, ended_at, at_end, alone, startup_of}
 use Rattle.start_keys.specs.Lawful.{IsLawfulParameter}
@@ -68,7 +68,7 @@ unfolding list_until
 pairs-read zero bytes low = tt
 pairs-read (suc n) bytes low = more-read (pair_at bytes) (list_until pair_at n) (λ rest h. pairs-read n rest h) (pair-read bytes low)
 
-abbrev AreRead : Result (List Pair) ViewFault → Type 0
+abbrev AreRead : Result (List Pair) ViewError → Type 0
 AreRead (Ok pairs) = ArePairs pairs
 AreRead (Err e) = Unit {0}
 

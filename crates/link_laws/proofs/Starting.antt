@@ -1,6 +1,6 @@
 -- A link's server reads the pairs of its key again.
 use Rattle.std.proofs.Common.{◌≡◌, ℕ, List, [], Result, Ok, refl, sym, ap, ◌∙◌, append-nil}
-use Rattle.message_view.specs.declared.ViewFault.{ViewFault}
+use Rattle.message_view.specs.declared.ViewError.{ViewError}
 use Rattle.message_view.specs.Reading.{Part, alone, ended_at, pair_at, startup_of}
 use Rattle.message_laws.proofs.EndTrips.{pairs_read}
 use Rattle.session_run_laws.specs.declared.cause.Cause.{Cause}
@@ -23,6 +23,6 @@ pairs-again key k =
 
 pub started-of : StartsAreOfTheirKeys
 started-of cat key k d =
-    ap (λ (r : Result (List Pair) ViewFault). bound (key_of r) (λ x. fresh cat x)) (pairs-again key k.lawful)
+    ap (λ (r : Result (List Pair) ViewError). bound (key_of r) (λ x. fresh cat x)) (pairs-again key k.lawful)
     ∙ ap (λ (r : Result StartKeyOf Cause). bound r (λ x. fresh cat x)) (stubs_of_client_keys key k d)
     ∙ fresh_by_names cat (stub key.dbname key.user key.parameters) key refl refl

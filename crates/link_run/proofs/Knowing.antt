@@ -6,7 +6,7 @@ use Rattle.std.proofs.lemmas.Bool.{eqb-true}
 use Rattle.std.proofs.lemmas.Slice.Eq.{bytes_eq-Decides}
 use Rattle.frame_view.specs.declared.server.TheConstants.{PARAMETER_STATUS}
 use Rattle.frame_view.specs.Frames.{FrameOf}
-use Rattle.message_view.specs.declared.ViewFault.{ViewFault}
+use Rattle.message_view.specs.declared.ViewError.{ViewError}
 use Rattle.message_view.specs.Reading.{status_of}
 use Rattle.start_keys.specs.StartPairs.{Text}
 use Rattle.session_values.specs.declared.parameter.Parameter.{Parameter}
@@ -62,7 +62,7 @@ known_frame start now f e d r = by (f.kind == PARAMETER_STATUS) refl
 kept_length : (now : List Text) (f : FrameOf) → length (after_reply now f) ≡ length now
 kept_length now f = by (f.kind == PARAMETER_STATUS) (status_of f.body)
   where
-    by : (b : Bool) (r : Result (Text × Text) ViewFault) → length (if b then reported_by now r else now) ≡ length now
+    by : (b : Bool) (r : Result (Text × Text) ViewError) → length (if b then reported_by now r else now) ≡ length now
     by true (Ok (n, t)) = reported_length reported_parameters now n t
     by true (Err fault) = refl
     by false r = refl

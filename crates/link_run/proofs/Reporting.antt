@@ -3,7 +3,7 @@ use Rattle.std.proofs.Common.{◌≡◌, arith, length, map, ◌++◌, Bool, tru
 use Rattle.std.specs.Prelude.{◌==◌, if◌then◌else◌, bytes_eq}
 use Rattle.frame_view.specs.declared.server.TheConstants.{PARAMETER_STATUS}
 use Rattle.frame_view.specs.Frames.{FrameOf}
-use Rattle.message_view.specs.declared.ViewFault.{ViewFault}
+use Rattle.message_view.specs.declared.ViewError.{ViewError}
 use Rattle.message_view.specs.declared.kinds.TheConstants.{IDLE}
 use Rattle.message_view.specs.Messages.{backend_key_data, parameter_status, ready_for_query}
 use Rattle.message_view.specs.Reading.{status_of}
@@ -26,7 +26,7 @@ with-one (p ∷ ps) (o ∷ start) (w ∷ now) n v = by (bytes_eq (name p) n) (wi
     by true e = refl
     by false e = ap (λ (ks : List Kept). told (first_told (name p, o)) w ∷ ks) e
 
-told-read : (start now : List Text) (r : Result (Text × Text) ViewFault) → told_by (kept_by start now) r ≡ kept_by start (reported_by now r)
+told-read : (start now : List Text) (r : Result (Text × Text) ViewError) → told_by (kept_by start now) r ≡ kept_by start (reported_by now r)
 told-read start now (Ok (n, v)) = with-one reported_parameters start now n v
 told-read start now (Err fault) = refl
 

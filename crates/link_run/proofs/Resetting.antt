@@ -27,8 +27,8 @@ use Rattle.server_end.proofs.Splits.{SplitsOff, split_whole}
 use Rattle.server_end.specs.declared.Moved.{Moved}
 use Rattle.server_end.specs.declared.Moved.TheVariants.{Count, NotNow, Ended, Fault}
 use Rattle.server_end.specs.Moves.{faults_in, moved, waits_in, IsWithin}
-use Rattle.link_run.specs.declared.reset.ResetFault.{ResetFault}
-use Rattle.link_run.specs.declared.reset.ResetFault.TheVariants.{Lost, Unexpected, Changed, Memory, Turns}
+use Rattle.link_run.specs.declared.reset.ResetError.{ResetError}
+use Rattle.link_run.specs.declared.reset.ResetError.TheVariants.{Lost, Unexpected, Changed, Memory, Turns}
 use Rattle.link_run.specs.declared.reply.Answered.{Answered}
 use Rattle.link_run.specs.declared.reply.Answered.TheVariants.{Nothing, Tag, All}
 use Rattle.link_run.specs.declared.reply.TheConstants.{LONGEST_REPLY}
@@ -80,7 +80,7 @@ read_on old new Ended into r s size i b e d o = absurd (true≢false o)
 read_on old new Fault into r s size i b e d o = absurd (true≢false o)
 
 -- a move's fault is the reset's
-pub fails_by : (kept : List Kept) (start old now : Standing) (turns : ℕ) (cause : ResetFault) → start.faults ≤ old.faults → MoveFailsBy old now cause → FailsBy kept start now turns cause
+pub fails_by : (kept : List Kept) (start old now : Standing) (turns : ℕ) (cause : ResetError) → start.faults ≤ old.faults → MoveFailsBy old now cause → FailsBy kept start now turns cause
 fails_by kept start old now turns Lost l f = ⊎_elim (λ d. inl d) (λ n. inr (omega (arith, l, n))) f
 fails_by kept start old now turns Unexpected l f = absurd f
 fails_by kept start old now turns Changed l f = absurd f
@@ -107,7 +107,7 @@ reads_all : (v : ResetView) → IsAnsweredReset v → reads (answer_in v.receive
 reads_all v d = ap (λ (b : List ℕ). at_rest (answered_by_all Nothing (answer_in v.received).frames) (front Server LONGEST_REPLY b)) d.whole ∙ d.answer
 
 -- once the answer is whole
-pub ends_by : (start : Standing) (v : ResetView) (now : Standing) (turns : ℕ) (cause : ResetFault) → IsResetFrom start v → IsAnsweredReset v → FailsAtEnd v now cause → FailsBy v.reports start now turns cause
+pub ends_by : (start : Standing) (v : ResetView) (now : Standing) (turns : ℕ) (cause : ResetError) → IsResetFrom start v → IsAnsweredReset v → FailsAtEnd v now cause → FailsBy v.reports start now turns cause
 ends_by start v now turns cause x d e = ⊎_elim
     (λ u. subst (FailsBy v.reports start now turns) (sym u.0) (heard_now start v now (IsUnexpected v.reports) x e.stands (inr (reads_all v d, u.1)), λ f. absurd (e.unfollowed (x.moves.follows ∙ f))))
     (λ w. subst (FailsBy v.reports start now turns) (sym w.0) (heard_now start v now (IsChanged v.reports) x e.stands (reads_all v d, w.1), λ f. e.unfollowed (x.moves.follows ∙ f)))

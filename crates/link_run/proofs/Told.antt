@@ -3,7 +3,7 @@ use Rattle.std.proofs.Common.{◌≡◌, ◌⊎◌, inl, inr, ⊎_elim, ℕ, Boo
 use Rattle.std.specs.Prelude.{◌||◌, if◌then◌else◌, bytes_eq, codes}
 use Rattle.std.specs.List.{flat_map, AllByRecursion}
 use Rattle.std.proofs.lemmas.Bool.{cases_Bool, true≢false}
-use Rattle.frame_view.specs.declared.FrameFault.{FrameFault}
+use Rattle.frame_view.specs.declared.FrameError.{FrameError}
 use Rattle.frame_view.specs.declared.Side.TheVariants.{Client, Server}
 use Rattle.frame_view.specs.declared.frames.TheConstants.{LONGEST_FRAME}
 use Rattle.frame_view.specs.Frames.{AreBytes, FrameOf, IsFrame, Front, AFrame, Lacks, Faulty, cut_after, front, frames, spelling}
@@ -128,13 +128,13 @@ goes_on : (a : Answered) (fs gs : List FrameOf) → answered_by_all a (fs ++ gs)
 goes_on a [] gs = refl
 goes_on a (f ∷ fs) gs = goes_on (answered_by a f) fs gs
 
-rest_keeps : (a : Answered) (x : Front) → ((fault : FrameFault) → x ≡ Faulty fault → ⊥) → at_rest a x ≡ a
+rest_keeps : (a : Answered) (x : Front) → ((fault : FrameError) → x ≡ Faulty fault → ⊥) → at_rest a x ≡ a
 rest_keeps a (AFrame kind body rest) n = refl
 rest_keeps a (Lacks k) n = refl
 rest_keeps a (Faulty fault) n = absurd (n fault refl)
 
 -- no head that is not lawful stands where whole frames begin
-lawful_rest : (bytes lost : List ℕ) (more : List FrameOf) (fault : FrameFault) → AllByRecursion (IsFrame Server LONGEST_REPLY) more → bytes ++ lost ≡ flat_map spelling more ++ [] → front Server LONGEST_REPLY bytes ≡ Faulty fault → ⊥
+lawful_rest : (bytes lost : List ℕ) (more : List FrameOf) (fault : FrameError) → AllByRecursion (IsFrame Server LONGEST_REPLY) more → bytes ++ lost ≡ flat_map spelling more ++ [] → front Server LONGEST_REPLY bytes ≡ Faulty fault → ⊥
 lawful_rest bytes lost [] fault h e x =
     let n : bytes ≡ [] = (no_bytes bytes lost e).0 in
     let y : front Server LONGEST_REPLY [] ≡ Faulty fault = ap (front Server LONGEST_REPLY) (sym n) ∙ x in

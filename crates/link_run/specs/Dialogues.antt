@@ -10,7 +10,7 @@ use Rattle.frame_view.specs.Frames.{FrameOf, IsFrame, spelling}
 use Rattle.message_view.specs.declared.kinds.TheConstants.{ASKS_NOTHING, ASKS_CLEARTEXT, ASKS_MD5, IDLE}
 use Rattle.message_view.specs.Bodies.{text}
 use Rattle.message_view.specs.Messages.{ready_for_query}
-use Rattle.message_view.specs.declared.ViewFault.{ViewFault}
+use Rattle.message_view.specs.declared.ViewError.{ViewError}
 use Rattle.message_view.specs.declared.views.KeyView.{KeyView}
 use Rattle.message_view.specs.Reading.{authentication_of, key_of, status_of}
 use Rattle.start_keys.specs.StartPairs.{Text}
@@ -98,7 +98,7 @@ pub record IsStartAnswer (replies : List FrameOf) : Type 0 where
   pub is_welcome : AllByRecursion IsOfWelcome welcome
 
 -- what is kept of the reports of an answer to a start, where each can be read and they are of at most 64 names
-abbrev pub added : List Kept → Result Report ViewFault → Option (List Kept)
+abbrev pub added : List Kept → Result Report ViewError → Option (List Kept)
 added kept (Ok r) = if fits kept r.0 then Some (with_first kept r) else None
 added kept (Err fault) = None
 
@@ -115,19 +115,19 @@ reported_all kept (f ∷ fs) = reported_next (reported_by kept f) (λ k. reporte
 
 -- ---- the key of the server that an answer to a start tells
 
-abbrev pub key_read : Result (ℕ × ℕ) ViewFault → Result (Option KeyView) ViewFault
+abbrev pub key_read : Result (ℕ × ℕ) ViewError → Result (Option KeyView) ViewError
 key_read (Ok k) = Ok (Some (record { pid = k.0; secret = k.1 }))
 key_read (Err fault) = Err fault
 
 -- the key that was told, once one more frame has come: a BackendKeyData tells it, where it can be read
-abbrev pub keyed_by : Option KeyView → FrameOf → Result (Option KeyView) ViewFault
+abbrev pub keyed_by : Option KeyView → FrameOf → Result (Option KeyView) ViewError
 keyed_by key f = if f.kind == BACKEND_KEY_DATA then key_read (key_of f.body) else Ok key
 
-abbrev pub keyed_next : Result (Option KeyView) ViewFault → (Option KeyView → Result (Option KeyView) ViewFault) → Result (Option KeyView) ViewFault
+abbrev pub keyed_next : Result (Option KeyView) ViewError → (Option KeyView → Result (Option KeyView) ViewError) → Result (Option KeyView) ViewError
 keyed_next (Ok key) go = go key
 keyed_next (Err fault) go = Err fault
 
-abbrev pub keyed_all : Option KeyView → List FrameOf → Result (Option KeyView) ViewFault
+abbrev pub keyed_all : Option KeyView → List FrameOf → Result (Option KeyView) ViewError
 keyed_all key [] = Ok key
 keyed_all key (f ∷ fs) = keyed_next (keyed_by key f) (λ k. keyed_all k fs)
 
@@ -163,7 +163,7 @@ abbrev pub IsResetAnswer : List FrameOf → Type 0
 IsResetAnswer fs = answered_by_all Nothing fs ≡ All
 
 -- a ParameterStatus can be read, and names a parameter that is kept
-abbrev pub names_kept : List Kept → Result (Text × Text) ViewFault → Bool
+abbrev pub names_kept : List Kept → Result (Text × Text) ViewError → Bool
 names_kept kept (Ok report) = has_name kept report.0
 names_kept kept (Err fault) = false
 

@@ -2,7 +2,7 @@
 use Rattle.std.specs.Prelude.{◌≡◌, ℕ, Option, List, [], ◌∷◌, ◌++◌, map, Result, Ok, Err, ◌==◌, if◌then◌else◌}
 use Rattle.frame_view.specs.declared.server.TheConstants.{PARAMETER_STATUS}
 use Rattle.frame_view.specs.Frames.{FrameOf}
-use Rattle.message_view.specs.declared.ViewFault.{ViewFault}
+use Rattle.message_view.specs.declared.ViewError.{ViewError}
 use Rattle.message_view.specs.declared.views.KeyView.{KeyView}
 use Rattle.message_view.specs.declared.kinds.TheConstants.{IDLE}
 use Rattle.message_view.specs.Messages.{backend_key_data, parameter_status, ready_for_query}
@@ -54,7 +54,7 @@ abbrev pub WelcomesAreTheSessions : Type 0
 WelcomesAreTheSessions = (s : State) (pid secret : ℕ) → welcome_by (kept_by s.reported s.reported) pid secret ≡ welcome s pid secret
 
 -- what is kept, once a server's frame has come: a ParameterStatus tells the value of the parameter that it names
-abbrev pub told_by : List Kept → Result (Text × Text) ViewFault → List Kept
+abbrev pub told_by : List Kept → Result (Text × Text) ViewError → List Kept
 told_by kept (Ok report) = with_told kept report
 told_by kept (Err fault) = kept
 

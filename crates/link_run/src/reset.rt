@@ -3,7 +3,7 @@ ghost use Rattle.std.specs.Prelude.{◌≡◌, ◌≢◌, ◌+◌, ◌<◌, ◌�
 ghost use Rattle.param_track.specs.Kept.{is_at_start};
 ghost use Rattle.link_run.specs.Dialogues.{IsResetDialogue};
 ghost use Rattle.link_run.specs.Resets.{EndsDialogue, FailsAtEnd, FailsBy, IsAnsweredReset, IsDisturbedReset, IsOther, IsPaced, IsPacedToEnd, IsResetFrom, IsUnfinished, KeepsReset, MoveFailsBy, ReadsOnce, is_over, read_so_far};
-ghost use Rattle.link_run.specs.declared.reset.ResetFault.TheVariants.{Lost};
+ghost use Rattle.link_run.specs.declared.reset.ResetError.TheVariants.{Lost};
 ghost use Rattle.link_run.specs.declared.reply.Answered.TheVariants.{All, Nothing, Other, Tag};
 
 use crate::links::{CleanLink, LinkParts, UsedLink};
@@ -22,7 +22,7 @@ static DISCARD_ALL: [u8; 17] = *b"Q\0\0\0\x10DISCARD ALL\0";
 
 /// Why a link wasn't reset.
 #[derive(Clone, Copy, PartialEq, Eq, Drop)]
-pub enum ResetFault {
+pub enum ResetError {
     /// The end faulted or ended.
     Lost,
     /// Something else was answered, a report can't be read or is of a name that the start didn't report, or a frame is longer
@@ -40,7 +40,7 @@ pub enum ResetFault {
 #[derive(Drop)]
 pub struct Disposed<E: ServerEnd> {
     pub end: E,
-    pub cause: ResetFault,
+    pub cause: ResetError,
 }
 
 /// A link that is being reset: how much of the Query was sent, and all that was answered.
@@ -75,13 +75,13 @@ impl<E: ServerEnd> Model for Reset<E> {
 }
 
 /// The fault of a read or a write.
-fn moved_on(moved: Moved) -> Result<(), ResetFault>
+fn moved_on(moved: Moved) -> Result<(), ResetError>
     ensures ok { IfOk result (λ _. is_over moved ≡ false) }
     ensures err { IfErr result (λ cause. (cause ≡ Lost) × (is_over moved ≡ true)) }
 {
     match moved {
         Moved::Count(_) | Moved::NotNow => Ok(()),
-        Moved::Ended | Moved::Fault => Err(ResetFault::Lost),
+        Moved::Ended | Moved::Fault => Err(ResetError::Lost),
     }
 }
 
@@ -105,7 +105,7 @@ impl<E: ServerEnd> Reset<E> {
     }
 
     /// Writes once, if something is left to be sent.
-    fn send(&mut self) -> Result<(), ResetFault>
+    fn send(&mut self) -> Result<(), ResetError>
         ensures key { self.new.key ≡ self.old.key }
         ensures number { self.new.number ≡ self.old.number }
         ensures born { self.new.born ≡ self.old.born }
@@ -129,7 +129,7 @@ impl<E: ServerEnd> Reset<E> {
     }
 
     /// Reads once. The room comes first: a refused growth after the read would lose bytes.
-    fn receive(&mut self) -> Result<(), ResetFault>
+    fn receive(&mut self) -> Result<(), ResetError>
         ensures key { self.new.key ≡ self.old.key }
         ensures number { self.new.number ≡ self.old.number }
         ensures born { self.new.born ≡ self.old.born }
@@ -143,7 +143,7 @@ impl<E: ServerEnd> Reset<E> {
     {
         let mut chunk = [0u8; CHUNK];
         if self.reply.reserve(CHUNK).is_err() {
-            return Err(ResetFault::Memory);
+            return Err(ResetError::Memory);
         }
         let moved = self.link.end.read_some(&mut chunk);
         if let Moved::Count(count) = moved {
@@ -184,15 +184,15 @@ impl<E: ServerEnd> Reset<E> {
             reply,
         } = self;
         if !tell_reports(reply.as_slice(), &mut link.reported) {
-            return Err(dispose(link, ResetFault::Unexpected));
+            return Err(dispose(link, ResetError::Unexpected));
         }
         if !link.reported.at_start() {
-            return Err(dispose(link, ResetFault::Changed));
+            return Err(dispose(link, ResetError::Changed));
         }
         Ok(link.clean())
     }
 
-    fn fail(self, cause: ResetFault) -> Disposed<E>
+    fn fail(self, cause: ResetError) -> Disposed<E>
         ensures cause { result.cause ≡ cause }
         ensures stands { E.standing result.end ≡ self.link }
     {
@@ -205,7 +205,7 @@ impl<E: ServerEnd> Reset<E> {
     }
 }
 
-fn dispose<E: ServerEnd>(link: LinkParts<E>, cause: ResetFault) -> Disposed<E>
+fn dispose<E: ServerEnd>(link: LinkParts<E>, cause: ResetError) -> Disposed<E>
     ensures cause { result.cause ≡ cause }
     ensures stands { E.standing result.end ≡ E.standing link.end }
 {
@@ -257,8 +257,8 @@ pub fn reset_link<E: ServerEnd, G: Gate<E>>(
         match reset.read() {
             Answered::All => return reset.finish(),
             Answered::Nothing | Answered::Tag => {}
-            Answered::Other => return Err(reset.fail(ResetFault::Unexpected)),
+            Answered::Other => return Err(reset.fail(ResetError::Unexpected)),
         }
     }
-    Err(reset.fail(ResetFault::Turns))
+    Err(reset.fail(ResetError::Turns))
 }

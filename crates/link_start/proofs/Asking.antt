@@ -4,7 +4,7 @@ use Rattle.std.specs.Prelude.{◌==◌, ◌&&◌, if◌then◌else◌, is_some, 
 use Rattle.std.proofs.lemmas.Slice.Eq.{bytes_eq-Decides}
 use Rattle.frame_view.specs.Frames.{FrameOf}
 use Rattle.message_view.specs.Bodies.{Text, text}
-use Rattle.message_view.specs.declared.ViewFault.{ViewFault}
+use Rattle.message_view.specs.declared.ViewError.{ViewError}
 use Rattle.message_view.specs.declared.kinds.TheConstants.{ASKS_NOTHING, ASKS_CLEARTEXT, ASKS_MD5}
 use Rattle.message_view.specs.Reading.{authentication_of}
 use Rattle.session_values.specs.declared.cause.Cause.{Cause}
@@ -95,7 +95,7 @@ asked_wants false false true d kind more q e = salted_wants more q e
 asked_wants false false false true kind more q e = offered_wants (offers_scram more) q e
 asked_wants false false false false kind more q e = wants (Unknown kind) q e
 
-part_wants : (r : Result (ℕ × List ℕ) ViewFault) (q : ServerQuestion) → asked_part r ≡ Asked q → answers_wanted q ≡ 1
+part_wants : (r : Result (ℕ × List ℕ) ViewError) (q : ServerQuestion) → asked_part r ≡ Asked q → answers_wanted q ≡ 1
 part_wants (Ok x) q e = asked_wants (x.0 == ASKS_NOTHING) (x.0 == ASKS_CLEARTEXT) (x.0 == ASKS_MD5) (x.0 == ASKS_SASL) x.0 x.1 q e
 part_wants (Err fault) q e = absurd cc
 
@@ -124,7 +124,7 @@ followed_wants cred Scram kind more q e = challenge_wants (kind == SASL_CONTINUE
 followed_wants cred (Challenge exchange) kind more q e = proof_never _ q e
 followed_wants cred (Unknown number) kind more q e = absurd cc
 
-behind_wants : (cred : CredentialOf) (p : ServerQuestion) (r : Result (ℕ × List ℕ) ViewFault) (q : ServerQuestion) → followed_part cred p r ≡ Asked q → answers_wanted q ≡ suc (answers_wanted p)
+behind_wants : (cred : CredentialOf) (p : ServerQuestion) (r : Result (ℕ × List ℕ) ViewError) (q : ServerQuestion) → followed_part cred p r ≡ Asked q → answers_wanted q ≡ suc (answers_wanted p)
 behind_wants cred p (Ok x) q e = followed_wants cred p x.0 x.1 q e
 behind_wants cred p (Err fault) q e = absurd cc
 

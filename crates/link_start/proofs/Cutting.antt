@@ -2,7 +2,7 @@
 use Rattle.std.proofs.Common.{◌≡◌, ℕ, ◌+◌, Bool, true, false, List, [], ◌∷◌, ◌++◌, drop, length, refl, sym, ap, ◌∙◌, subst}
 use Rattle.std.specs.Prelude.{if◌then◌else◌}
 use Rattle.std.proofs.lemmas.Bool.{true≢false}
-use Rattle.frame_view.specs.declared.FrameFault.{FrameFault}
+use Rattle.frame_view.specs.declared.FrameError.{FrameError}
 use Rattle.frame_view.specs.declared.Side.TheVariants.{Server}
 use Rattle.frame_view.specs.Frames.{Cut, Front, AFrame, Lacks, Faulty, Stops, front, frames}
 use Rattle.frame_view.proofs.Growth.{front-grows}
@@ -22,7 +22,7 @@ goes cred h cut = before cred (heard_all cred h cut.frames) cut.rest
 stopped : (bytes : List ℕ) (z : Front) → front Server 65536 bytes ≡ z → Stops z → frames Server 65536 bytes ≡ record { frames = []; rest = bytes }
 stopped bytes z e s = frames-stopped Server 65536 bytes (subst Stops (sym e) s)
 
-faulty_stays : (cred : CredentialOf) (h : StartProgress) (rest more : List ℕ) (fault : FrameFault) → front Server 65536 rest ≡ Faulty fault → ((bs : List ℕ) → before cred h bs ≡ if_lawful h (front Server 65536 bs))
+faulty_stays : (cred : CredentialOf) (h : StartProgress) (rest more : List ℕ) (fault : FrameError) → front Server 65536 rest ≡ Faulty fault → ((bs : List ℕ) → before cred h bs ≡ if_lawful h (front Server 65536 bs))
     → goes cred h (frames Server 65536 (rest ++ more)) ≡ Other
 faulty_stays cred h rest more fault e lawful =
     let stays : front Server 65536 (rest ++ more) ≡ Faulty fault = (front-grows Server 65536 rest more).fault fault e in

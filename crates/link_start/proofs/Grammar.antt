@@ -6,7 +6,7 @@ use Rattle.std.proofs.lemmas.Bool.{eqb-true, true≢false}
 use Rattle.std.proofs.lemmas.Slice.Eq.{bytes_eq-Decides}
 use Rattle.frame_view.specs.declared.server.TheConstants.{AUTHENTICATION, BACKEND_KEY_DATA, NOTICE_RESPONSE, PARAMETER_STATUS, READY_FOR_QUERY}
 use Rattle.frame_view.specs.Frames.{FrameOf}
-use Rattle.message_view.specs.declared.ViewFault.{ViewFault}
+use Rattle.message_view.specs.declared.ViewError.{ViewError}
 use Rattle.message_view.specs.declared.kinds.TheConstants.{ASKS_NOTHING, ASKS_CLEARTEXT, ASKS_MD5, IDLE}
 use Rattle.message_view.specs.Messages.{ready_for_query}
 use Rattle.message_view.specs.Reading.{authentication_of}
@@ -78,7 +78,7 @@ lets_in_by kind more false false true d n e = absurd (salted_never more e)
 lets_in_by kind more false false false true n e = absurd (offered_never (offers_scram more) e)
 lets_in_by kind more false false false false n e = absurd (let z : Asked (Unknown kind) ≡ LetIn = e in cc)
 
-let_in_part : (r : Result (ℕ × List ℕ) ViewFault) → asked_part r ≡ LetIn → r ≡ Ok (ASKS_NOTHING, [])
+let_in_part : (r : Result (ℕ × List ℕ) ViewError) → asked_part r ≡ LetIn → r ≡ Ok (ASKS_NOTHING, [])
 let_in_part (Err fault) e = absurd (let z : Other ≡ LetIn = e in cc)
 let_in_part (Ok x) e =
     let h = lets_in_by x.0 x.1 (x.0 == ASKS_NOTHING) (x.0 == ASKS_CLEARTEXT) (x.0 == ASKS_MD5) (x.0 == ASKS_SASL) refl e in
@@ -127,7 +127,7 @@ record SaysFirst (q : ServerQuestion) (f : FrameOf) : Type 0 where
   pub body : authentication_of f.body ≡ Ok (number, more)
   pub first : IsFirst q number more
 
-says_first : (cred : CredentialOf) (q : ServerQuestion) (f : FrameOf) (r : Result (ℕ × List ℕ) ViewFault) → authentication_of f.body ≡ r → can_answer cred q ≡ true → asked_part r ≡ Asked q → SaysFirst q f
+says_first : (cred : CredentialOf) (q : ServerQuestion) (f : FrameOf) (r : Result (ℕ × List ℕ) ViewError) → authentication_of f.body ≡ r → can_answer cred q ≡ true → asked_part r ≡ Asked q → SaysFirst q f
 says_first cred q f (Err fault) is can e = absurd (let z : Other ≡ Asked q = e in cc)
 says_first cred q f (Ok x) is can e = record {
   number = x.0;
@@ -171,7 +171,7 @@ asked_says kind more false false true d = salted_says more
 asked_says kind more false false false true = offered_says (offers_scram more)
 asked_says kind more false false false false = refl
 
-part_says : (r : Result (ℕ × List ℕ) ViewFault) → says (asked_part r) ≡ true
+part_says : (r : Result (ℕ × List ℕ) ViewError) → says (asked_part r) ≡ true
 unfolding says
 part_says (Err fault) = refl
 part_says (Ok x) = asked_says x.0 x.1 (x.0 == ASKS_NOTHING) (x.0 == ASKS_CLEARTEXT) (x.0 == ASKS_MD5) (x.0 == ASKS_SASL)
@@ -281,11 +281,11 @@ left_by (Challenge exchange) = grammar.Proof ∷ []
 left_by (Unknown number) = []
 
 -- of a password and of a digest nothing
-plain_is : (cred : CredentialOf) (r : Result (ℕ × List ℕ) ViewFault) → followed_part cred Cleartext r ≡ only_let_in (asked_part r)
+plain_is : (cred : CredentialOf) (r : Result (ℕ × List ℕ) ViewError) → followed_part cred Cleartext r ≡ only_let_in (asked_part r)
 plain_is cred (Ok x) = refl
 plain_is cred (Err fault) = refl
 
-digest_is : (cred : CredentialOf) (salt : _) (r : Result (ℕ × List ℕ) ViewFault) → followed_part cred (Md5 salt) r ≡ only_let_in (asked_part r)
+digest_is : (cred : CredentialOf) (salt : _) (r : Result (ℕ × List ℕ) ViewError) → followed_part cred (Md5 salt) r ≡ only_let_in (asked_part r)
 digest_is cred salt (Ok x) = refl
 digest_is cred salt (Err fault) = refl
 
@@ -305,7 +305,7 @@ module _ (cred : CredentialOf) where
   enters_said_proof f fs kind more true false is k eb e = absurd (other_never cred fs e)
   enters_said_proof f fs kind more false c is k eb e = absurd (other_never cred fs e)
 
-  enters_followed : (q : ServerQuestion) (f : FrameOf) (fs : List FrameOf) (r : Result (ℕ × List ℕ) ViewFault) → authentication_of f.body ≡ r → f.kind ≡ AUTHENTICATION
+  enters_followed : (q : ServerQuestion) (f : FrameOf) (fs : List FrameOf) (r : Result (ℕ × List ℕ) ViewError) → authentication_of f.body ≡ r → f.kind ≡ AUTHENTICATION
       → ((exchange : ExchangeOf) → heard_all cred (Asked (Challenge exchange)) fs ≡ Ready → Enters cred (grammar.Proof ∷ []) fs) → heard_all cred (followed_part cred q r) fs ≡ Ready → Enters cred (left_by q) (f ∷ fs)
   enters_followed Cleartext f fs r is k go e = lets_in cred (asked_part r) f fs (ap asked_part is) k (ap (λ (h : StartProgress). heard_all cred h fs) (sym (plain_is cred r)) ∙ e)
   enters_followed (Md5 salt) f fs r is k go e = lets_in cred (asked_part r) f fs (ap asked_part is) k (ap (λ (h : StartProgress). heard_all cred h fs) (sym (digest_is cred salt r)) ∙ e)
@@ -380,7 +380,7 @@ opens_in cred Proved f fs e k h = proved_first (authentication_of f.body) e
     asked_not kind more false false false true i = offered_not (offers_scram more) i
     asked_not kind more false false false false i = absurd cc
 
-    proved_first : {A : Type 0} (r : Result (ℕ × List ℕ) ViewFault) → asked_part r ≡ Proved → A
+    proved_first : {A : Type 0} (r : Result (ℕ × List ℕ) ViewError) → asked_part r ≡ Proved → A
     proved_first (Ok x) i = asked_not x.0 x.1 (x.0 == ASKS_NOTHING) (x.0 == ASKS_CLEARTEXT) (x.0 == ASKS_MD5) (x.0 == ASKS_SASL) i
     proved_first (Err fault) i = absurd cc
 opens_in cred Refused f fs e k h = absurd (let z : Refused ≡ Ready = sym (refused_stays cred fs) ∙ h in cc)

@@ -4,7 +4,7 @@ use Rattle.std.specs.Prelude.{◌==◌, ◌&&◌, ◌||◌, if◌then◌else◌}
 use Rattle.std.proofs.lemmas.Bool.{eqb-true, true≢false}
 use Rattle.frame_view.specs.declared.server.TheConstants.{AUTHENTICATION, ERROR_RESPONSE, NOTICE_RESPONSE, READY_FOR_QUERY}
 use Rattle.frame_view.specs.Frames.{FrameOf, spelling}
-use Rattle.message_view.specs.declared.ViewFault.{ViewFault}
+use Rattle.message_view.specs.declared.ViewError.{ViewError}
 use Rattle.message_view.specs.declared.kinds.TheConstants.{ASKS_NOTHING, ASKS_CLEARTEXT, ASKS_MD5}
 use Rattle.message_view.specs.Reading.{authentication_of}
 use Rattle.session_laws.specs.Laws.{has_ready}
@@ -165,7 +165,7 @@ asked_by-open false false false false kind more = tt
 asked_kind-open : (kind : ℕ) (more : List ℕ) → IsOpen (asked_by kind more)
 asked_kind-open kind more = asked_by-open (kind == ASKS_NOTHING) (kind == ASKS_CLEARTEXT) (kind == ASKS_MD5) (kind == ASKS_SASL) kind more
 
-asked-open : (r : Result (ℕ × List ℕ) ViewFault) → IsOpen (asked_part r)
+asked-open : (r : Result (ℕ × List ℕ) ViewError) → IsOpen (asked_part r)
 asked-open (Ok x) = asked_kind-open x.0 x.1
 asked-open (Err fault) = tt
 
@@ -194,7 +194,7 @@ followed_by-open cred Scram kind more = challenged-open (kind == SASL_CONTINUES)
 followed_by-open cred (Challenge exchange) kind more = proved-open _
 followed_by-open cred (Unknown number) kind more = tt
 
-followed-open : (cred : CredentialOf) (q : ServerQuestion) (r : Result (ℕ × List ℕ) ViewFault) → IsOpen (followed_part cred q r)
+followed-open : (cred : CredentialOf) (q : ServerQuestion) (r : Result (ℕ × List ℕ) ViewError) → IsOpen (followed_part cred q r)
 followed-open cred q (Ok x) = followed_by-open cred q x.0 x.1
 followed-open cred q (Err fault) = tt
 

@@ -1,7 +1,7 @@
 -- The server's key, as the welcome of a session tells it.
 use Rattle.std.proofs.Common.{◌≡◌, ℕ, ◌^◌, ◌<◌, List, [], ◌∷◌, ◌++◌, refl, sym, ap, ◌∙◌, append-nil, Result, Ok, Err, Option, Some, None}
 use Rattle.frame_view.specs.Frames.{FrameOf}
-use Rattle.message_view.specs.declared.ViewFault.{ViewFault}
+use Rattle.message_view.specs.declared.ViewError.{ViewError}
 use Rattle.message_view.specs.declared.kinds.TheConstants.{IDLE}
 use Rattle.message_view.specs.declared.views.KeyView.{KeyView}
 use Rattle.message_view.specs.Bodies.{int32}
@@ -39,7 +39,7 @@ pub record TellsOwnKey (v : Server) (replies : List FrameOf) : Type 0 where
   pub told : TellsKey replies key
   pub own : IsOwnKey v key
 
-key_in : Result (ℕ × ℕ) ViewFault → Option KeyView
+key_in : Result (ℕ × ℕ) ViewError → Option KeyView
 key_in (Ok k) = Some (record { pid = k.0; secret = k.1 })
 key_in (Err fault) = None
 
@@ -50,7 +50,7 @@ welcome_tells_key v s =
     record {
       key = Some (record { pid = k.0.0; secret = k.0.1 });
       told = reports_tell_none reported_parameters s.reported (backend_key_data v.pid v.secret ∷ ready_for_query IDLE ∷ [])
-          ∙ ap (λ (r : Result (ℕ × ℕ) ViewFault). keyed_next (key_read r) (λ key. keyed_all key (ready_for_query IDLE ∷ []))) k.1;
+          ∙ ap (λ (r : Result (ℕ × ℕ) ViewError). keyed_next (key_read r) (λ key. keyed_all key (ready_for_query IDLE ∷ []))) k.1;
       own = λ p q. ap key_in (sym k.1 ∙ same_key v.pid v.secret p q);
     }
 

@@ -6,7 +6,7 @@ use Rattle.std.proofs.lemmas.Bool.{true≢false, ltb-false, lt-ltb}
 use Rattle.std.proofs.lemmas.Slice.Eq.{bytes_eq-Decides}
 use Rattle.std.proofs.lemmas.List.{append_cancel_right}
 use Rattle.frame_view.specs.Frames.{FrameOf}
-use Rattle.message_view.specs.declared.ViewFault.{ViewFault}
+use Rattle.message_view.specs.declared.ViewError.{ViewError}
 use Rattle.message_view.specs.Bodies.{Text, text, status_body}
 use Rattle.message_view.specs.Messages.{parameter_status, backend_key_data, ready_for_query}
 use Rattle.message_view.specs.declared.kinds.TheConstants.{IDLE}
@@ -42,11 +42,11 @@ name_first ExtraFloatDigits v = refl
 name_first SearchPath v = refl
 name_first StatementTimeout v = refl
 
-text_in : Result (Text × List ℕ) ViewFault → Text
+text_in : Result (Text × List ℕ) ViewError → Text
 text_in (Ok x) = x.0
 text_in (Err fault) = []
 
-rest_in : Result (Text × List ℕ) ViewFault → List ℕ
+rest_in : Result (Text × List ℕ) ViewError → List ℕ
 rest_in (Ok x) = x.1
 rest_in (Err fault) = []
 

@@ -11,7 +11,7 @@ use Rattle.std.proofs.lemmas.Option.{same_Some}
 use Rattle.frame_view.specs.declared.Side.TheVariants.{Server as FromServer}
 use Rattle.frame_view.specs.Frames.{AreBytes, Cut, FrameOf, Front, AFrame, Lacks, Faulty, Start, Splits, first_spelling, front, frames, spelling}
 use Rattle.frame_view.proofs.Splitting.{frames-split, frames-stopped}
-use Rattle.message_view.specs.declared.ViewFault.{ViewFault}
+use Rattle.message_view.specs.declared.ViewError.{ViewError}
 use Rattle.message_view.specs.declared.views.KeyView.{KeyView}
 use Rattle.message_view.specs.Bodies.{Text}
 use Rattle.session_values.specs.declared.cause.Cause.{Cause}
@@ -345,7 +345,7 @@ started_clean v (began, (cred, d)) key kept bytes k e = record {
 never_unreported : (began : Standing) (cred : CredentialOf) (v : StartView) → IsDoneFrom began cred v → began.follows ≡ true → AreBytes v.received → reported_all [] (frames FromServer 65536 v.received).frames ≢ None
 never_unreported began cred v d f bytes e = let z : Some _ ≡ None = sym (reports_are began cred v d.can_start d.key d.under_way f bytes d.welcomed) ∙ e in cc
 
-never_unkeyed : (began : Standing) (cred : CredentialOf) (v : StartView) (fault : ViewFault) → IsDoneFrom began cred v → began.follows ≡ true → AreBytes v.received → keyed_all None (frames FromServer 65536 v.received).frames ≢ Err fault
+never_unkeyed : (began : Standing) (cred : CredentialOf) (v : StartView) (fault : ViewError) → IsDoneFrom began cred v → began.follows ≡ true → AreBytes v.received → keyed_all None (frames FromServer 65536 v.received).frames ≢ Err fault
 never_unkeyed began cred v fault d f bytes e =
     let y = key_is began cred v d.can_start d.key d.under_way f bytes d.welcomed in
     let z : Ok y.key ≡ Err fault = sym y.told ∙ e in
@@ -355,17 +355,17 @@ never_unkeyed began cred v fault d f bytes e =
 pub unreported_cause : (began : Standing) (cred : CredentialOf) (v : StartView) → IsDoneFrom began cred v → AreBytes v.received → reported_all [] (frames FromServer 65536 v.received).frames ≡ None → IsStartCause began v.end cred v.key Unexpected
 unreported_cause began cred v d bytes e = (came_as began cred v (IsUnexpectedHeard cred) d.under_way (inr (inl (d.welcomed.ready, inl e))), λ f. never_unreported began cred v d f bytes e)
 
-fault_in : (r : Result (Option KeyView) ViewFault) → ((key : Option KeyView) → r ≡ Ok key → ⊥) → (fault : ViewFault) × (r ≡ Err fault)
+fault_in : (r : Result (Option KeyView) ViewError) → ((key : Option KeyView) → r ≡ Ok key → ⊥) → (fault : ViewError) × (r ≡ Err fault)
 fault_in (Ok key) n = absurd (n key refl)
 fault_in (Err fault) n = (fault, refl)
 
-pub unkeyed_cause : (began : Standing) (cred : CredentialOf) (v : StartView) (r : Result (Option KeyView) ViewFault) → IsDoneFrom began cred v → AreBytes v.received → ((key : Option KeyView) → r ≡ Ok key → ⊥)
+pub unkeyed_cause : (began : Standing) (cred : CredentialOf) (v : StartView) (r : Result (Option KeyView) ViewError) → IsDoneFrom began cred v → AreBytes v.received → ((key : Option KeyView) → r ≡ Ok key → ⊥)
     → r ≡ keyed_all None (frames FromServer 65536 v.received).frames → IsStartCause began v.end cred v.key Unexpected
 unkeyed_cause began cred v r d bytes n e =
     let y = fault_in r n in
     (came_as began cred v (IsUnexpectedHeard cred) d.under_way (inr (inl (d.welcomed.ready, inr (y.0, sym e ∙ y.1)))), λ f. never_unkeyed began cred v y.0 d f bytes (sym e ∙ y.1))
 
-some_key : (k l : Option KeyView) (r : Result (Option KeyView) ViewFault) → r ≡ Ok k → r ≡ Ok l → k ≡ l
+some_key : (k l : Option KeyView) (r : Result (Option KeyView) ViewError) → r ≡ Ok k → r ≡ Ok l → k ≡ l
 some_key k l r e d = cc
 
 pub own_key : (began : Standing) (cred : CredentialOf) (v : StartView) (key : Option KeyView) → IsDoneFrom began cred v → began.follows ≡ true → AreBytes v.received → TellsKey (frames FromServer 65536 v.received).frames key → IsOwnKey began.server key

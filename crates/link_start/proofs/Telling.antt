@@ -2,7 +2,7 @@
 use Rattle.std.proofs.Common.{◌≡◌, ◌≢◌, ℕ, Bool, true, false, List, [], ◌∷◌, ◌++◌, map, append_assoc, refl, sym, ap, ◌∙◌, append-nil, arith, subst, Result, Ok, Err, Option, Some, None}
 use Rattle.std.specs.Prelude.{if◌then◌else◌}
 use Rattle.std.specs.List.{flat_map, AllByRecursion}
-use Rattle.frame_view.specs.declared.FrameFault.{FrameFault}
+use Rattle.frame_view.specs.declared.FrameError.{FrameError}
 use Rattle.frame_view.specs.declared.Side.TheVariants.{Server as FromServer}
 use Rattle.frame_view.specs.Frames.{FrameOf, AFrame, Faulty, front, spelling}
 use Rattle.frame_view.proofs.Cuts.{front-spelling}
@@ -160,7 +160,7 @@ replies_heard cred user v auth key given c k a own = replies_on cred user v key 
 
 -- ---- the beginning of a frame
 
-pub not_faulty : (more : List FrameOf) (tail lost : List ℕ) (fault : FrameFault) → AllByRecursion IsShortReply more → tail ++ lost ≡ flat_map spelling more → front FromServer 65536 tail ≢ Faulty fault
+pub not_faulty : (more : List FrameOf) (tail lost : List ℕ) (fault : FrameError) → AllByRecursion IsShortReply more → tail ++ lost ≡ flat_map spelling more → front FromServer 65536 tail ≢ Faulty fault
 not_faulty [] tail lost fault each e f =
     let none : tail ≡ [] = nothing tail lost e in
     let z : front FromServer 65536 [] ≡ Faulty fault = ap (front FromServer 65536) (sym none) ∙ f in

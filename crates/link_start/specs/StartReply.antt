@@ -4,7 +4,7 @@ use Rattle.frame_view.specs.declared.Side.TheVariants.{Server}
 use Rattle.frame_view.specs.declared.server.TheConstants.{AUTHENTICATION, BACKEND_KEY_DATA, ERROR_RESPONSE, NOTICE_RESPONSE, PARAMETER_STATUS, READY_FOR_QUERY}
 use Rattle.frame_view.specs.Frames.{FrameOf, Cut, Front, AFrame, Lacks, Faulty, front, frames, spelling}
 use Rattle.message_view.specs.declared.kinds.TheConstants.{ASKS_NOTHING, ASKS_CLEARTEXT, ASKS_MD5, IDLE}
-use Rattle.message_view.specs.declared.ViewFault.{ViewFault}
+use Rattle.message_view.specs.declared.ViewError.{ViewError}
 use Rattle.message_view.specs.declared.views.KeyView.{KeyView}
 use Rattle.message_view.specs.Reading.{authentication_of}
 use Rattle.param_track.specs.Kept.{Kept}
@@ -18,8 +18,8 @@ use Rattle.link_start.specs.declared.start_reply.StartProgress.TheVariants.{Noth
 use Rattle.link_start.specs.declared.start_reply.ServerQuestion.{ServerQuestion}
 use Rattle.link_start.specs.declared.start_reply.ServerQuestion.TheVariants.{Cleartext, Md5, Scram, Challenge, Unknown}
 use Rattle.link_start.specs.Questions.{can_answer}
-use Rattle.link_start.specs.declared.start_reply.ReportError.{ReportError}
-use Rattle.link_start.specs.declared.start_reply.ReportError.TheVariants.{Unexpected, Memory}
+use Rattle.link_start.specs.declared.start_reply.TakeReportError.{TakeReportError}
+use Rattle.link_start.specs.declared.start_reply.TakeReportError.TheVariants.{Unexpected, Memory}
 
 -- ---- the question
 
@@ -42,7 +42,7 @@ asked_by kind more =
     if kind == ASKS_NOTHING then bare LetIn more
     else (if kind == ASKS_CLEARTEXT then bare (Asked Cleartext) more else (if kind == ASKS_MD5 then salted more else (if kind == ASKS_SASL then offered (offers_scram more) else Asked (Unknown kind))))
 
-abbrev pub asked_part : Result (ℕ × List ℕ) ViewFault → StartProgress
+abbrev pub asked_part : Result (ℕ × List ℕ) ViewError → StartProgress
 asked_part (Ok x) = asked_by x.0 x.1
 asked_part (Err fault) = Other
 
@@ -81,7 +81,7 @@ followed_by c Scram kind more = challenged_by c kind more
 followed_by c (Challenge exchange) kind more = proved_by exchange kind more
 followed_by c (Unknown number) kind more = Other
 
-abbrev pub followed_part : CredentialOf → ServerQuestion → Result (ℕ × List ℕ) ViewFault → StartProgress
+abbrev pub followed_part : CredentialOf → ServerQuestion → Result (ℕ × List ℕ) ViewError → StartProgress
 followed_part c q (Ok x) = followed_by c q x.0 x.1
 followed_part c q (Err fault) = Other
 
@@ -174,13 +174,13 @@ abbrev pub error_in : List FrameOf → List ℕ
 error_in [] = []
 error_in (f ∷ fs) = if f.kind == ERROR_RESPONSE then spelling f else error_in fs
 
-abbrev pub Takes : Option (List Kept) → List Kept → Result (Unit {0}) ReportError → Type 0
+abbrev pub Takes : Option (List Kept) → List Kept → Result (Unit {0}) TakeReportError → Type 0
 Takes whole new (Ok u) = whole ≡ Some new
 Takes whole new (Err Unexpected) = whole ≡ None
 Takes whole new (Err Memory) = Unit {0}
 
-abbrev pub TakesReport : List Kept → FrameOf → List Kept → Result (Unit {0}) ReportError → Type 0
+abbrev pub TakesReport : List Kept → FrameOf → List Kept → Result (Unit {0}) TakeReportError → Type 0
 TakesReport old f new r = Takes (reported_by old f) new r
 
-abbrev pub TakesReports : List Kept → List FrameOf → List Kept → Result (Unit {0}) ReportError → Type 0
+abbrev pub TakesReports : List Kept → List FrameOf → List Kept → Result (Unit {0}) TakeReportError → Type 0
 TakesReports old fs new r = Takes (reported_all old fs) new r

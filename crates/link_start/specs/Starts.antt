@@ -4,7 +4,7 @@ use Rattle.std.specs.Borrow.{Bor}
 use Rattle.frame_view.specs.Frames.{FrameOf, frames, spelling}
 use Rattle.frame_view.specs.declared.Side.TheVariants.{Server}
 use Rattle.frame_view.specs.declared.server.TheConstants.{ERROR_RESPONSE}
-use Rattle.message_view.specs.declared.ViewFault.{ViewFault}
+use Rattle.message_view.specs.declared.ViewError.{ViewError}
 use Rattle.message_view.specs.declared.views.KeyView.{KeyView}
 use Rattle.message_view.specs.Bodies.{Text}
 use Rattle.session_values.specs.Lawful.{IsClientKey}
@@ -240,7 +240,7 @@ IsAnsweredBy count question = answers_wanted question ≤ count
 
 -- a report can't be read, more than 64 names are reported, or the key can't be read
 abbrev pub IsUnreadable : List ℕ → Type 0
-IsUnreadable received = (reported_all [] (answer_in received) ≡ None) ⊎ ((fault : ViewFault) × (keyed_all None (answer_in received) ≡ Err fault))
+IsUnreadable received = (reported_all [] (answer_in received) ≡ None) ⊎ ((fault : ViewError) × (keyed_all None (answer_in received) ≡ Err fault))
 
 -- more bytes than a welcome has, and more of the answer is to come
 abbrev pub IsTooLong : CredentialOf → List ℕ → Type 0

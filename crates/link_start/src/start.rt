@@ -16,7 +16,7 @@ ghost use Rattle.link_start.specs.Starts.{CanStart, CountsOn, HasTried, IsBounde
 
 use crate::messages::{put_answer, startup_message};
 use crate::start_reply::{
-    ReportError, ServerQuestion, StartProgress, error_in, key_told, read_start_reply, take_reports,
+    TakeReportError, ServerQuestion, StartProgress, error_in, key_told, read_start_reply, take_reports,
 };
 use bytes::BytesMut;
 use credentials::Credential;
@@ -128,7 +128,7 @@ impl From<AllocError> for StartCause {
 
 /// An end whose start failed.
 #[derive(Drop)]
-pub struct StartLinkFault<E: ServerEnd> {
+pub struct StartLinkError<E: ServerEnd> {
     pub end: E,
     pub cause: StartCause,
 }
@@ -202,7 +202,7 @@ impl<E: ServerEnd> Start<E> {
         key: Arc<StartKey>,
         number: u64,
         born: u64,
-    ) -> Result<Start<E>, StartLinkFault<E>>
+    ) -> Result<Start<E>, StartLinkError<E>>
         ensures under_way { IfOk result (λ s. (c : CredentialOf) → IsStartUnderWay (E.standing end) c s) }
         ensures same { IfOk result (λ s. (s.key ≡ arc_value key) × (s.number ≡ number) × (s.born ≡ born)) }
         ensures stands { IfOk result (λ s. s.end ≡ E.standing end) }
@@ -212,7 +212,7 @@ impl<E: ServerEnd> Start<E> {
         ensures back { IfErr result (λ f. E.standing f.end ≡ E.standing end) }
     {
         let Ok(messages) = startup_message(alloc, &key) else {
-            return Err(StartLinkFault {
+            return Err(StartLinkError {
                 end,
                 cause: StartCause::Memory,
             });
@@ -437,7 +437,7 @@ impl<E: ServerEnd> Start<E> {
     }
 
     /// The link, once its server's welcome came.
-    fn finish(self, alloc: Global) -> Result<CleanLink<E>, StartLinkFault<E>>
+    fn finish(self, alloc: Global) -> Result<CleanLink<E>, StartLinkError<E>>
         requires { IsDone self }
         ensures started { (b : Standing) (c : CredentialOf) → IsDoneFrom b c self → IfOk result (λ l. IsStarted b c l) }
         ensures own_key { (b : Standing) (c : CredentialOf) → IsDoneFrom b c self → b.follows ≡ true → IfOk result (λ l. IsOwnKey b.server l.server_key) }
@@ -461,7 +461,7 @@ impl<E: ServerEnd> Start<E> {
             reply,
         } = self;
         let Ok(server_key) = key_told(reply.as_slice()) else {
-            return Err(StartLinkFault {
+            return Err(StartLinkError {
                 end,
                 cause: StartCause::Unexpected,
             });
@@ -477,18 +477,18 @@ impl<E: ServerEnd> Start<E> {
                 reported,
             }
             .clean()),
-            Err(ReportError::Unexpected) => Err(StartLinkFault {
+            Err(TakeReportError::Unexpected) => Err(StartLinkError {
                 end,
                 cause: StartCause::Unexpected,
             }),
-            Err(ReportError::Memory) => Err(StartLinkFault {
+            Err(TakeReportError::Memory) => Err(StartLinkError {
                 end,
                 cause: StartCause::Memory,
             }),
         }
     }
 
-    fn fail(self, cause: StartCause) -> StartLinkFault<E>
+    fn fail(self, cause: StartCause) -> StartLinkError<E>
         ensures end { E.standing result.end ≡ self.end }
         ensures cause { result.cause ≡ cause }
     {
@@ -502,7 +502,7 @@ impl<E: ServerEnd> Start<E> {
             sent: _,
             reply: _,
         } = self;
-        StartLinkFault { end, cause }
+        StartLinkError { end, cause }
     }
 }
 
@@ -530,7 +530,7 @@ pub fn start_link<E: ServerEnd, G: Gate<E>>(
     born: u64,
     gate: &mut G,
     turns: u32,
-) -> Result<CleanLink<E>, StartLinkFault<E>>
+) -> Result<CleanLink<E>, StartLinkError<E>>
     requires can_start { CanStart credential.now (arc_value key).user (E.standing end) }
     requires key { IsLinkKey (arc_value key) }
     ensures started { IfOk result (λ l. IsStarted (E.standing end) credential.now l) }

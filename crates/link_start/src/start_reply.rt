@@ -21,8 +21,8 @@ use frame_view::{Frame, Side, Step, next_frame};
 use link_run::reply::{LONGEST_REPLY, ReplyFrames};
 use link_run::sasl::{ASKS_SASL, SASL_CONTINUES, SASL_ENDS};
 use message_view::kinds::{ASKS_CLEARTEXT, ASKS_MD5, ASKS_NOTHING};
-use message_view::{AuthView, KeyView, StatusView, ViewFault};
-use param_track::{ReportFault, Reported};
+use message_view::{AuthView, KeyView, StatusView, ViewError};
+use param_track::{ReportError, Reported};
 use std::alloc::{AllocError, Global};
 
 /// What a server asks of the user that starts a link.
@@ -371,7 +371,7 @@ pub(crate) fn error_in(reply: &[u8]) -> &[u8]
 
 /// Why a start's reports weren't taken.
 #[derive(Clone, Copy, Drop)]
-pub(crate) enum ReportError {
+pub(crate) enum TakeReportError {
     /// One can't be read, or there are more than [`param_track::MOST_NAMES`] names.
     Unexpected,
     /// An allocation failed.
@@ -379,19 +379,19 @@ pub(crate) enum ReportError {
 }
 
 /// Takes the report of a ParameterStatus; another frame reports nothing.
-fn take_report(alloc: Global, frame: Frame<'_>, reported: &mut Reported) -> Result<(), ReportError>
+fn take_report(alloc: Global, frame: Frame<'_>, reported: &mut Reported) -> Result<(), TakeReportError>
     ensures { TakesReport reported.old (frame_of frame.entry) reported.new result }
 {
     if frame.kind != PARAMETER_STATUS {
         return Ok(());
     }
     let Ok(report) = StatusView::read(frame.body) else {
-        return Err(ReportError::Unexpected);
+        return Err(TakeReportError::Unexpected);
     };
     match reported.add(alloc, &report) {
         Ok(()) => Ok(()),
-        Err(ReportFault::TooMany) => Err(ReportError::Unexpected),
-        Err(ReportFault::OutOfMemory) => Err(ReportError::Memory),
+        Err(ReportError::TooMany) => Err(TakeReportError::Unexpected),
+        Err(ReportError::OutOfMemory) => Err(TakeReportError::Memory),
     }
 }
 
@@ -400,7 +400,7 @@ pub(crate) fn take_reports(
     alloc: Global,
     reply: &[u8],
     reported: &mut Reported,
-) -> Result<(), ReportError>
+) -> Result<(), TakeReportError>
     ensures taken { TakesReports reported.old (frames Server LONGEST_REPLY reply.now).frames reported.new result }
     ensures bytes { AreBytes reply.now }
 {
@@ -412,7 +412,7 @@ pub(crate) fn take_reports(
 }
 
 /// The server's key, where this one was told before, as one more frame tells it.
-fn keyed_by(key: Option<KeyView>, frame: Frame<'_>) -> Result<Option<KeyView>, ViewFault>
+fn keyed_by(key: Option<KeyView>, frame: Frame<'_>) -> Result<Option<KeyView>, ViewError>
     ensures { result ≡ keyed_by key (frame_of frame.entry) }
 {
     if frame.kind != BACKEND_KEY_DATA {
@@ -425,7 +425,7 @@ fn keyed_by(key: Option<KeyView>, frame: Frame<'_>) -> Result<Option<KeyView>, V
 }
 
 /// The server's key, as the whole frames of these bytes tell it: that of the last BackendKeyData among them.
-pub(crate) fn key_told(reply: &[u8]) -> Result<Option<KeyView>, ViewFault>
+pub(crate) fn key_told(reply: &[u8]) -> Result<Option<KeyView>, ViewError>
     ensures key { result ≡ keyed_all None (frames Server LONGEST_REPLY reply.now).frames }
     ensures bytes { AreBytes reply.now }
 {

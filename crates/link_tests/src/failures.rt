@@ -4,7 +4,7 @@ ghost use Rattle.link_start.specs.Starts.{CanStartAll};
 
 use crate::making::{SHOP, begin, failing_at, server};
 use link_run::links::CleanLink;
-use link_run::reset::{ResetFault, reset_link};
+use link_run::reset::{ResetError, reset_link};
 use link_start::start::StartCause;
 use memory_ends::failing_end::FailingEnd;
 use memory_ends::memory_client::MemoryClient;
@@ -125,7 +125,7 @@ fn after_lease<E: ServerEnd>(alloc: Global, next: Next, link: Returned<E>) -> Ou
     match link {
         Returned::Used(link) => match reset_link(alloc, link, &mut OpenGate::new(), 200) {
             Ok(link) => after_reset(next, link),
-            Err(disposed) if disposed.cause == ResetFault::Lost => Outcome::NotReset,
+            Err(disposed) if disposed.cause == ResetError::Lost => Outcome::NotReset,
             Err(_) => Outcome::Wrong,
         },
         Returned::Gone(_, _) if next == Next::Refuse(Refusal::ServerFailed) => Outcome::LostInLease,

@@ -4,7 +4,7 @@ ghost use Rattle.link_start.specs.Starts.{CanStartAll};
 
 use crate::making::{SHOP, begin, failing_at, server};
 use link_run::links::{CleanLink, UsedLink};
-use link_run::reset::{ResetFault, reset_link};
+use link_run::reset::{ResetError, reset_link};
 use memory_ends::memory_server::ServerAuth;
 use message_view::KeyWord;
 use paced_client::PacedClient;
@@ -133,7 +133,7 @@ fn a_second_client_is_given_nothing_of_the_first(rt: HostRuntime) -> Result<(), 
 }
 
 /// Why a used link isn't reset in so many turns.
-fn fault<E: ServerEnd>(alloc: Global, end: E, turns: u32) -> Result<Option<ResetFault>, Fail>
+fn fault<E: ServerEnd>(alloc: Global, end: E, turns: u32) -> Result<Option<ResetError>, Fail>
     requires { CanStartAll (E.standing end) }
 {
     let (_, link) = used(alloc, end)?;
@@ -148,7 +148,7 @@ fn fault<E: ServerEnd>(alloc: Global, end: E, turns: u32) -> Result<Option<Reset
 fn a_reset_fails(rt: HostRuntime) -> Result<(), Fail> {
     let alloc = rt.alloc();
     let slow = server(alloc, ServerAuth::Trust, 1, None)?;
-    assert!(rt; fault(alloc, slow, 1)? == Some(ResetFault::Turns));
-    assert!(rt; fault(alloc, failing_at(alloc, 100, 7)?, 20)? == Some(ResetFault::Lost));
+    assert!(rt; fault(alloc, slow, 1)? == Some(ResetError::Turns));
+    assert!(rt; fault(alloc, failing_at(alloc, 100, 7)?, 20)? == Some(ResetError::Lost));
     Ok(())
 }

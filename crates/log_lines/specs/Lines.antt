@@ -1,7 +1,7 @@
 -- The lines of the log about clients, each without its end: `pgsess: `, the client, and what is told of it.
 use Rattle.std.specs.Prelude.{ℕ, List, [], ◌∷◌, ◌++◌, ◌==◌, Option, Some, None, Result, Ok, Err, if◌then◌else◌, Bool, ◌||◌, bytes_eq, length, drop, codes, decimal}
 use Rattle.message_view.specs.declared.refusal.Refusal.{Refusal}
-use Rattle.message_view.specs.declared.ViewFault.{ViewFault}
+use Rattle.message_view.specs.declared.ViewError.{ViewError}
 use Rattle.message_view.specs.Refusals.{telling}
 use Rattle.message_view.specs.Reading.{note_of}
 use Rattle.message_view.specs.declared.kinds.TheConstants.{ASKS_CLEARTEXT, ASKS_MD5}
@@ -39,7 +39,7 @@ field code [] = []
 field code (f ∷ fields) = if f.0 == code then f.1 else field code fields
 
 -- the fields of a message; none where it is faulty
-abbrev pub fields_or_none : Result (List (ℕ × Text)) ViewFault → List (ℕ × Text)
+abbrev pub fields_or_none : Result (List (ℕ × Text)) ViewError → List (ℕ × Text)
 fields_or_none (Ok fields) = fields
 fields_or_none (Err fault) = []
 

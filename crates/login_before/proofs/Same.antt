@@ -8,7 +8,7 @@ use Rattle.ini_config.specs.declared.database_rows.DbRow.{DbRow}
 use Rattle.ini_config.specs.declared.option_values.AuthType.{AuthType}
 use Rattle.ini_config.specs.declared.option_values.AuthType.TheVariants.{Trust, Plain, Md5, ScramSha256}
 use Rattle.message_view.specs.declared.KeyWord.{KeyWord}
-use Rattle.message_view.specs.declared.ViewFault.{ViewFault}
+use Rattle.message_view.specs.declared.ViewError.{ViewError}
 use Rattle.message_view.specs.declared.refusal.Refusal.{Refusal}
 use Rattle.message_view.specs.Reading.{startup_of, password_of}
 use Rattle.session_values.specs.State.{StartKeyOf}
@@ -46,7 +46,7 @@ module _ (now_next : now.Stage → Dialogue) (before_next : before.Stage → Dia
   judged_same : (row : LoginRow) (word : KeyWord) (key : StartKeyOf) (given : Text) → follow rest now_next (now.judged row word key given) ≡ follow rest before_next (before.judged row word key given)
   judged_same row word key given = right_same row key (is_right row word key given)
 
-  password_same : (row : LoginRow) (word : KeyWord) (key : StartKeyOf) (given : Result Text ViewFault) → follow rest now_next (now.to_password row word key given) ≡ follow rest before_next (before.to_password row word key given)
+  password_same : (row : LoginRow) (word : KeyWord) (key : StartKeyOf) (given : Result Text ViewError) → follow rest now_next (now.to_password row word key given) ≡ follow rest before_next (before.to_password row word key given)
   password_same row word key (Err fault) = refl
   password_same row word key (Ok given) = judged_same row word key given
 

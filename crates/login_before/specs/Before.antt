@@ -5,7 +5,7 @@ use Rattle.frame_view.specs.declared.Side.TheVariants.{Client}
 use Rattle.frame_view.specs.declared.client.TheConstants.{PASSWORD_MESSAGE, TERMINATE}
 use Rattle.frame_view.specs.Frames.{FirstOf, Start, Cancels, AsksTls, AsksGss, front, first_front}
 use Rattle.message_view.specs.declared.KeyWord.{KeyWord}
-use Rattle.message_view.specs.declared.ViewFault.{ViewFault}
+use Rattle.message_view.specs.declared.ViewError.{ViewError}
 use Rattle.message_view.specs.declared.refusal.Refusal.{Refusal}
 use Rattle.message_view.specs.declared.refusal.Refusal.TheVariants.{MalformedClientMessage}
 use Rattle.message_view.specs.Reading.{startup_of, password_of}
@@ -79,7 +79,7 @@ to_first rows word tls gss (Cancels pid secret) = Stops [] (Cancelling (record {
 to_first rows word tls gss AsksTls = not_twice tls (AtFirst true gss)
 to_first rows word tls gss AsksGss = not_twice gss (AtFirst tls true)
 
-abbrev pub to_password : LoginRow → KeyWord → StartKeyOf → Result Text ViewFault → Reacts
+abbrev pub to_password : LoginRow → KeyWord → StartKeyOf → Result Text ViewError → Reacts
 to_password row word key (Err fault) = malformed
 to_password row word key (Ok given) = judged row word key given
 

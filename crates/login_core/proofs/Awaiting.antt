@@ -1,7 +1,7 @@
 -- What the cutters of packets tell of the bytes that are held.
 use Rattle.std.proofs.Common.{◌≡◌, ℕ, ◌<◌, List, [], refl, sym, ap, ap₂, ◌∙◌, Bool, true, false}
 use Rattle.std.specs.Borrow.{Bor}
-use Rattle.frame_view.specs.declared.FrameFault.{FrameFault}
+use Rattle.frame_view.specs.declared.FrameError.{FrameError}
 use Rattle.frame_view.specs.declared.FirstStep.TheVariants as first
 use Rattle.frame_view.specs.declared.Frame.{Frame}
 use Rattle.frame_view.specs.declared.Step.TheVariants as message
@@ -65,10 +65,10 @@ told_need n (LacksFirst m) h = (m, refl, h.1)
 told_need n (AFirst p rest) h = absurd h
 told_need n (FaultyFirst o) h = absurd h
 
-told_fault : (fault : FrameFault) (f : FirstFront) → TellsFirst (first.Bad fault) f → of_first f ≡ Bad (Refused (refusal_of fault))
+told_fault : (fault : FrameError) (f : FirstFront) → TellsFirst (first.Bad fault) f → of_first f ≡ Bad (Refused (refusal_of fault))
 told_fault fault (AFirst p rest) h = absurd h
 told_fault fault (LacksFirst m) h = absurd h
-told_fault fault (FaultyFirst o) h = ap (λ (x : FrameFault). Bad (Refused (refusal_of x))) (sym h)
+told_fault fault (FaultyFirst o) h = ap (λ (x : FrameError). Bad (Refused (refusal_of x))) (sym h)
 
 told_whole : (frame : Frame) (bytes : List ℕ) (f : Front) → Tells (message.Whole frame) bytes f → IsWhole (of_front f) (Message frame.kind frame.body.now)
 told_whole frame bytes (AFrame kind body rest) h = (rest, ap (λ (k : ℕ). Whole (Message k body) rest) (sym h.kind_is) ∙ ap (λ (b : List ℕ). Whole (Message frame.kind b) rest) (sym h.body_is))
@@ -80,7 +80,7 @@ told_lack n bytes (Lacks m) h = (m, refl, h.1)
 told_lack n bytes (AFrame kind body rest) h = absurd h
 told_lack n bytes (Faulty o) h = absurd h
 
-told_bad : (fault : FrameFault) (bytes : List ℕ) (f : Front) → Tells (message.Bad fault) bytes f → of_front f ≡ Bad (Refused MalformedClientMessage)
+told_bad : (fault : FrameError) (bytes : List ℕ) (f : Front) → Tells (message.Bad fault) bytes f → of_front f ≡ Bad (Refused MalformedClientMessage)
 told_bad fault bytes (Faulty o) h = refl
 told_bad fault bytes (AFrame kind body rest) h = absurd h
 told_bad fault bytes (Lacks m) h = absurd h
@@ -112,14 +112,14 @@ module _ (grow : PacketsGrow) (rows : Rows) (word : KeyWord) where
     pub hears_less : (n : ℕ) → TellsFirst (first.Need n) (first_front held) → StepIs rows word (AwaitsPacket (AtFirst tls gss)) held step.More (AwaitsPacket (AtFirst tls gss)) held
     hears_less n h = let t = told_need n (first_front held) h in turned_more grow rows word (AtFirst tls gss) held t.0 fits t.1 t.2
 
-    pub hears_fault : (fault : FrameFault) (r : Refusal) → TellsFirst (first.Bad fault) (first_front held) → r ≡ refusal_of fault → StepIs rows word (AwaitsPacket (AtFirst tls gss)) held (step.Refused r) Over []
+    pub hears_fault : (fault : FrameError) (r : Refusal) → TellsFirst (first.Bad fault) (first_front held) → r ≡ refusal_of fault → StepIs rows word (AwaitsPacket (AtFirst tls gss)) held (step.Refused r) Over []
     hears_fault fault r h e = turned_bad grow rows word (AtFirst tls gss) held r (told_fault fault (first_front held) h ∙ ap (λ (x : Refusal). Bad (Refused x)) (sym e))
 
   module _ (asking : Asking) (key : StartKeyOf) (held : List ℕ) (fits : Fits (AwaitsPacket (Asked asking key)) held) where
     pub hears_part : (n : ℕ) → Tells (message.Need n) held (front Client longest_message held) → StepIs rows word (AwaitsPacket (Asked asking key)) held step.More (AwaitsPacket (Asked asking key)) held
     hears_part n h = let t = told_lack n held (front Client longest_message held) h in turned_more grow rows word (Asked asking key) held t.0 fits t.1 t.2
 
-    pub hears_bad : (fault : FrameFault) → Tells (message.Bad fault) held (front Client longest_message held) → StepIs rows word (AwaitsPacket (Asked asking key)) held (step.Refused MalformedClientMessage) Over []
+    pub hears_bad : (fault : FrameError) → Tells (message.Bad fault) held (front Client longest_message held) → StepIs rows word (AwaitsPacket (Asked asking key)) held (step.Refused MalformedClientMessage) Over []
     hears_bad fault h = turned_bad grow rows word (Asked asking key) held MalformedClientMessage (told_bad fault held (front Client longest_message held) h)
 
     module _ (frame : Frame) (h : Tells (message.Whole frame) held (front Client longest_message held)) where

@@ -6,7 +6,7 @@ use Rattle.scram.specs.Keys.{auth_message}
 use Rattle.scram.specs.Wire.{initial_response_of}
 use Rattle.ini_config.specs.declared.database_rows.DbRow.{DbRow}
 use Rattle.message_view.specs.declared.KeyWord.{KeyWord}
-use Rattle.message_view.specs.declared.ViewFault.{ViewFault}
+use Rattle.message_view.specs.declared.ViewError.{ViewError}
 use Rattle.session_values.specs.State.{StartKeyOf}
 use Rattle.param_track.specs.StartKeys.{Text}
 use Rattle.login_core.specs.Talk.Reaction.{Goes, Passes, Stops}
@@ -61,7 +61,7 @@ module _ (word : KeyWord) where
   pub judged_ends : (row : LoginRow) (key : StartKeyOf) (given : Text) → Ends (judged row word key given)
   judged_ends row key given = judges row key (is_right row word key given)
 
-  password_ends : (row : LoginRow) (key : StartKeyOf) (given : Result Text ViewFault) → Ends (to_password row word key given)
+  password_ends : (row : LoginRow) (key : StartKeyOf) (given : Result Text ViewError) → Ends (to_password row word key given)
   password_ends row key (Err fault) = tt
   password_ends row key (Ok given) = judged_ends row key given
 

@@ -7,11 +7,11 @@ use Rattle.ini_config.specs.declared.option_values.AuthType.{AuthType}
 use Rattle.ini_config.specs.declared.option_values.AuthType.TheVariants.{Trust, Plain, Md5, ScramSha256}
 use Rattle.ini_config.specs.declared.database_rows.DbRow.{DbRow}
 use Rattle.message_view.specs.declared.KeyWord.{KeyWord}
-use Rattle.message_view.specs.declared.ViewFault.{ViewFault}
+use Rattle.message_view.specs.declared.ViewError.{ViewError}
 use Rattle.message_view.specs.declared.refusal.Refusal.{Refusal}
 use Rattle.message_view.specs.Reading.{startup_of}
 use Rattle.session_values.specs.State.{StartKeyOf}
-use Rattle.param_track.specs.declared.StartFault.{StartFault}
+use Rattle.param_track.specs.declared.StartKeyError.{StartKeyError}
 use Rattle.param_track.specs.StartKeys.{Text, Pair, Names, database_in, user_in, key_at, unless, refusal, parameters_in}
 use Rattle.login_core.specs.Talk.{Cut, says, talk, follow, on_cut}
 use Rattle.login_core.specs.Talk.Cut.{Whole, Need, Bad}
@@ -30,7 +30,7 @@ named_at : (row : Option DbRow) (database user : Text) (ps : List Pair) → ((ke
 named_at (Some row) database user ps = (refl, refl)
 named_at None database user ps = (refl, refl)
 
-key_names : (row : Option DbRow) (names : Names) (pairs : List Pair) (f : Option StartFault) (key : StartKeyOf) → or_refusal (unless f (key_at row (database_in pairs) (user_in pairs) (parameters_in names pairs))) ≡ Ok key →
+key_names : (row : Option DbRow) (names : Names) (pairs : List Pair) (f : Option StartKeyError) (key : StartKeyOf) → or_refusal (unless f (key_at row (database_in pairs) (user_in pairs) (parameters_in names pairs))) ≡ Ok key →
     (key.row ≡ database_in pairs) × (key.user ≡ user_in pairs)
 unfolding result_key
 key_names row names pairs (Some fault) key e = absurd cc
@@ -96,7 +96,7 @@ module _ (rows : Rows) (word : KeyWord) where
       let names = key_names row.database row.names pairs (refusal row.names pairs) key e in
       key_alike row key (ap (λ (d : Text). rows d key.user) names.0 ∙ ap (rows (database_in pairs)) names.1) n more
 
-  start_alike : (n : ℕ) (more : List ℕ) (read : Result (List Pair) ViewFault) →
+  start_alike : (n : ℕ) (more : List ℕ) (read : Result (List Pair) ViewError) →
       from rows n more (begins rows word (key_of rows read)) ≡ from (one (row_for rows (names_of_pairs read))) n more (begins (one (row_for rows (names_of_pairs read))) word (key_of (one (row_for rows (names_of_pairs read))) read))
   start_alike n more (Err fault) = refl
   start_alike n more (Ok pairs) = begins_alike n more pairs (key_of rows (Ok pairs)) refl

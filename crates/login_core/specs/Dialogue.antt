@@ -2,13 +2,13 @@
 -- "Message Flow", "Start-up", "SASL Authentication" and "SSL Session Encryption"; RFC 1321 for the MD5 answer, RFC 5802 for SCRAM).
 use Rattle.std.specs.Prelude.{ℕ, List, [], ◌∷◌, ◌++◌, Option, Some, None, Result, Ok, Err, Bool, true, false, ◌==◌, ◌&&◌, ◌||◌, if◌then◌else◌, bytes_eq, codes, is_some, unwrap_or}
 use Rattle.std.specs.List.{list_any}
-use Rattle.frame_view.specs.declared.FrameFault.{FrameFault}
-use Rattle.frame_view.specs.declared.FrameFault.TheVariants.{UnknownType, TooShort, TooLong, UnknownCode}
+use Rattle.frame_view.specs.declared.FrameError.{FrameError}
+use Rattle.frame_view.specs.declared.FrameError.TheVariants.{UnknownType, TooShort, TooLong, UnknownCode}
 use Rattle.frame_view.specs.declared.Side.TheVariants.{Client}
 use Rattle.frame_view.specs.declared.client.TheConstants.{PASSWORD_MESSAGE, TERMINATE}
 use Rattle.frame_view.specs.Frames.{Front, AFrame, Lacks, Faulty, front, FirstOf, Start, Cancels, AsksTls, AsksGss, FirstFront, AFirst, LacksFirst, FaultyFirst, first_front, spelling}
 use Rattle.message_view.specs.declared.KeyWord.{KeyWord}
-use Rattle.message_view.specs.declared.ViewFault.{ViewFault}
+use Rattle.message_view.specs.declared.ViewError.{ViewError}
 use Rattle.message_view.specs.declared.views.KeyView.{KeyView}
 use Rattle.message_view.specs.declared.refusal.Refusal.{Refusal}
 use Rattle.message_view.specs.declared.refusal.Refusal.TheVariants.{UnsupportedProtocol, MalformedClientMessage, UnsupportedParameter, OutOfMemory}
@@ -30,8 +30,8 @@ use Rattle.scram.specs.Keys.{auth_message, revealed}
 use Rattle.scram.specs.Messages.{FirstOf as FirstText, LastOf as LastText, challenge, final, first_of, last_of, nonce_of}
 use Rattle.scram.specs.Wire.{initial_response_of}
 use Rattle.session_values.specs.State.{StartKeyOf}
-use Rattle.param_track.specs.declared.StartFault.{StartFault}
-use Rattle.param_track.specs.declared.StartFault.TheVariants.{NoUser, UnsupportedParameter as Unsupported, Replication, Memory}
+use Rattle.param_track.specs.declared.StartKeyError.{StartKeyError}
+use Rattle.param_track.specs.declared.StartKeyError.TheVariants.{NoUser, UnsupportedParameter as Unsupported, Replication, Memory}
 use Rattle.param_track.specs.StartKeys.{Text, Pair, Names, names_of, database_in, user_in, start_key}
 use Rattle.login_core.specs.Talk.{Cut, Reaction, Said, talk}
 use Rattle.login_core.specs.Talk.Cut.{Whole, Need, Bad}
@@ -103,7 +103,7 @@ Dialogue = Said Way Reason
 
 -- ---- packets
 
-abbrev pub refusal_of : FrameFault → Refusal
+abbrev pub refusal_of : FrameError → Refusal
 refusal_of UnknownCode = UnsupportedProtocol
 refusal_of UnknownType = MalformedClientMessage
 refusal_of TooShort = MalformedClientMessage
@@ -274,18 +274,18 @@ asks Plain row word key = Goes (asks_cleartext ∷ []) (Asked ForPassword key)
 asks Md5 row word key = if has_verifier row.user then offers_scram key else Goes (asks_md5 word.salt ∷ []) (Asked ForPassword key)
 asks ScramSha256 row word key = offers_scram key
 
-abbrev pub start_refusal : StartFault → Refusal
+abbrev pub start_refusal : StartKeyError → Refusal
 start_refusal NoUser = MalformedClientMessage
 start_refusal Unsupported = UnsupportedParameter
 start_refusal Replication = UnsupportedParameter
 start_refusal Memory = OutOfMemory
 
-abbrev pub or_refusal : Result StartKeyOf StartFault → Result StartKeyOf Refusal
+abbrev pub or_refusal : Result StartKeyOf StartKeyError → Result StartKeyOf Refusal
 or_refusal (Ok key) = Ok key
 or_refusal (Err fault) = Err (start_refusal fault)
 
 -- the key of a StartupMessage with these pairs
-abbrev pub key_of : Rows → Result (List Pair) ViewFault → Result StartKeyOf Refusal
+abbrev pub key_of : Rows → Result (List Pair) ViewError → Result StartKeyOf Refusal
 key_of rows (Err fault) = Err MalformedClientMessage
 key_of rows (Ok pairs) =
     or_refusal (start_key (rows (database_in pairs) (user_in pairs)).database (rows (database_in pairs) (user_in pairs)).names pairs)
@@ -308,7 +308,7 @@ to_first rows word tls gss (Cancels pid secret) = Stops [] (Cancelling (record {
 to_first rows word tls gss AsksTls = not_twice tls (AtFirst true gss)
 to_first rows word tls gss AsksGss = not_twice gss (AtFirst tls true)
 
-abbrev pub to_password : LoginRow → KeyWord → StartKeyOf → Result Text ViewFault → Reacts
+abbrev pub to_password : LoginRow → KeyWord → StartKeyOf → Result Text ViewError → Reacts
 to_password row word key (Err fault) = malformed
 to_password row word key (Ok given) = judged row word key given
 

@@ -21,8 +21,8 @@ use Rattle.login_core.specs.declared.steps.Question.{Question}
 use Rattle.login_core.specs.declared.steps.Question.TheVariants as question
 use Rattle.login_core.specs.declared.steps.Authenticated.{Authenticated}
 use Rattle.login_core.specs.declared.steps.Authenticated.TheVariants as authenticated
-use Rattle.login_core.specs.declared.steps.Failure.{Failure}
-use Rattle.login_core.specs.declared.steps.Failure.TheVariants as failure
+use Rattle.login_core.specs.declared.steps.LoginRefusal.{LoginRefusal}
+use Rattle.login_core.specs.declared.steps.LoginRefusal.TheVariants as failure
 use Rattle.login_core.specs.declared.steps.LoginStep.{LoginStep}
 use Rattle.login_core.specs.declared.steps.LoginStep.TheVariants as step
 use Rattle.login_core.specs.declared.dialogue.Rules.{Rules}
@@ -135,7 +135,7 @@ authenticated_bytes authenticated.Nothing = []
 authenticated_bytes authenticated.Ok = ok
 authenticated_bytes (authenticated.WithProof frames) = text_of (box_value frames)
 
-abbrev pub failure_bytes : Failure → List ℕ
+abbrev pub failure_bytes : LoginRefusal → List ℕ
 failure_bytes failure.WrongPassword = wrong_password
 failure_bytes failure.NoDatabase = no_database
 

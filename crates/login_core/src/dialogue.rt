@@ -11,14 +11,14 @@ ghost use Rattle.login_core.specs.declared.steps.Question.TheVariants.{Scram};
 ghost use Rattle.login_core.specs.Logins.{Answers, ArrivesOnce, Begun, Decides, Fits, AwaitsPacket, Arriving, IfToLink, IsBeforeArrival, IsRevealed, IsRevealedTo, Over, Reveals, StartMeans, StepIs, TakesMemory, asking_of, authenticated_bytes, awaiting_of, left_after, missing, named_key, names_user, proof_bytes, revealed_of, rows_under, verdict_of};
 
 use crate::laws::packets_grow;
-use crate::steps::{Authenticated, Failure, LoginStep, Question};
+use crate::steps::{Authenticated, LoginRefusal, LoginStep, Question};
 use frame_view::client::{PASSWORD_MESSAGE, TERMINATE};
 use frame_view::{
-    FirstStep, FrameFault, LONGEST_FIRST_PACKET, Side, Step, first_packet, next_frame,
+    FirstStep, FrameError, LONGEST_FIRST_PACKET, Side, Step, first_packet, next_frame,
 };
 use ini_config::{AuthType, Settings};
 use message_view::{KeyWord, PasswordView, Refusal, StartupView};
-use param_track::{StartFault, start_key, unsupported_name};
+use param_track::{StartKeyError, start_key, unsupported_name};
 use scram::Message;
 use start_keys::StartKey;
 use start_keys::text::Text;
@@ -127,23 +127,23 @@ pub(crate) enum Verdict {
     Nowhere,
 }
 
-fn refusal_of(fault: FrameFault) -> Refusal
+fn refusal_of(fault: FrameError) -> Refusal
     ensures { result ≡ login.refusal_of fault }
 {
     match fault {
-        FrameFault::UnknownCode => Refusal::UnsupportedProtocol,
-        FrameFault::UnknownType | FrameFault::TooShort | FrameFault::TooLong =>
+        FrameError::UnknownCode => Refusal::UnsupportedProtocol,
+        FrameError::UnknownType | FrameError::TooShort | FrameError::TooLong =>
             Refusal::MalformedClientMessage,
     }
 }
 
-fn refusal_of_start(fault: StartFault) -> Refusal
+fn refusal_of_start(fault: StartKeyError) -> Refusal
     ensures { result ≡ login.start_refusal fault }
 {
     match fault {
-        StartFault::NoUser => Refusal::MalformedClientMessage,
-        StartFault::UnsupportedParameter | StartFault::Replication => Refusal::UnsupportedParameter,
-        StartFault::Memory => Refusal::OutOfMemory,
+        StartKeyError::NoUser => Refusal::MalformedClientMessage,
+        StartKeyError::UnsupportedParameter | StartKeyError::Replication => Refusal::UnsupportedParameter,
+        StartKeyError::Memory => Refusal::OutOfMemory,
     }
 }
 
@@ -218,7 +218,7 @@ pub(crate) fn refused(refusal: Refusal) -> Answered
     (LoginStep::Refused(refusal), Place::Over(None))
 }
 
-fn failed(failure: Failure) -> Answered
+fn failed(failure: LoginRefusal) -> Answered
     ensures step { result.0 ≡ Failed failure }
     ensures over { awaiting_of result.1 ≡ Over }
 {
@@ -384,8 +384,8 @@ impl Rules {
                 Ok((LoginStep::Passed(key, let_in(proof)), Place::Over(revealed)))
             }
             Verdict::ToConsole => Ok((LoginStep::Console(proved(proof)), Place::Over(None))),
-            Verdict::Wrong => Ok(failed(Failure::WrongPassword)),
-            Verdict::Nowhere => Ok(failed(Failure::NoDatabase)),
+            Verdict::Wrong => Ok(failed(LoginRefusal::WrongPassword)),
+            Verdict::Nowhere => Ok(failed(LoginRefusal::NoDatabase)),
         }
     }
 

@@ -10,4 +10,4 @@ mod steps;
 
 pub use login::Login;
 pub use message_view::KeyWord;
-pub use steps::{Authenticated, Failure, LoginStep, Question};
+pub use steps::{Authenticated, LoginRefusal, LoginStep, Question};

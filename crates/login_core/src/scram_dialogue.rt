@@ -13,7 +13,7 @@ ghost use Rattle.login_core.specs.Dialogue.{ForFirst, ForLast, proof_by};
 ghost use Rattle.login_core.specs.Logins.{Answers, Reveals, revealed_of, rows_under, told_of};
 
 use crate::dialogue::{Answered, Asking, MALFORMED, Place, Rules, refused};
-use crate::steps::{Failure, LoginStep, Question};
+use crate::steps::{LoginRefusal, LoginStep, Question};
 use message_view::Refusal;
 use scram::client_messages::{First, Last};
 use scram::server_messages::{challenge_message, final_message, nonce};
@@ -196,7 +196,7 @@ impl Rules {
                     Err(_) => refused(Refusal::OutOfMemory),
                 }
             }
-            None => (LoginStep::Failed(Failure::WrongPassword), Place::Over(None)),
+            None => (LoginStep::Failed(LoginRefusal::WrongPassword), Place::Over(None)),
         }
     }
 }

@@ -63,22 +63,22 @@ impl Authenticated {
 
 /// Why a client isn't admitted, as a server of its own would say.
 #[derive(Clone, Copy, Drop)]
-pub enum Failure {
+pub enum LoginRefusal {
     /// 28P01: an unknown user, or not its password.
     WrongPassword,
     /// 3D000: the settings have no row of the database.
     NoDatabase,
 }
 
-impl Failure {
+impl LoginRefusal {
     /// One ErrorResponse of severity FATAL.
     pub fn as_bytes(&self) -> &'static [u8]
         ensures { result.now ≡ spec.failure_bytes self.now }
     {
         match self {
-            Failure::WrongPassword =>
+            LoginRefusal::WrongPassword =>
                 b"E\0\0\0\x3aSFATAL\0VFATAL\0C28P01\0Mpassword authentication failed\0\0",
-            Failure::NoDatabase =>
+            LoginRefusal::NoDatabase =>
                 b"E\0\0\0\x33SFATAL\0VFATAL\0C3D000\0Mdatabase does not exist\0\0",
         }
     }
@@ -102,7 +102,7 @@ pub enum LoginStep {
     /// The client is given this refusal and closed.
     Refused(Refusal),
     /// The client is given this error and closed.
-    Failed(Failure),
+    Failed(LoginRefusal),
     /// A CancelRequest came, with these words of the BackendKeyData that it names. The client is closed without a byte, whatever
     /// comes of it.
     Cancel { pid: u32, secret: u32 },

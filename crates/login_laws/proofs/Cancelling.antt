@@ -6,7 +6,7 @@ use Rattle.frame_view.specs.Laws.{FirstReadIsSpelled}
 use Rattle.frame_view.specs.declared.Side.TheVariants.{Client}
 use Rattle.frame_view.specs.declared.client.TheConstants.{PASSWORD_MESSAGE, TERMINATE}
 use Rattle.message_view.specs.declared.KeyWord.{KeyWord}
-use Rattle.message_view.specs.declared.ViewFault.{ViewFault}
+use Rattle.message_view.specs.declared.ViewError.{ViewError}
 use Rattle.message_view.specs.declared.refusal.Refusal.{Refusal}
 use Rattle.message_view.specs.Reading.{startup_of, password_of}
 use Rattle.ini_config.specs.declared.database_rows.DbRow.{DbRow}
@@ -71,7 +71,7 @@ module _ (rows : Rows) (word : KeyWord) where
   begins_other (Ok key) = asks_other (rows key.row key.user).auth (rows key.row key.user) key
   begins_other (Err refusal) = tt
 
-  password_other : (row : LoginRow) (key : StartKeyOf) (r : Result Text ViewFault) → IsOther (to_password row word key r)
+  password_other : (row : LoginRow) (key : StartKeyOf) (r : Result Text ViewError) → IsOther (to_password row word key r)
   password_other row key (Ok given) = judged_other row key given
   password_other row key (Err fault) = tt
 

@@ -11,7 +11,7 @@ use Rattle.ini_config.specs.declared.database_rows.DbRow.{DbRow}
 use Rattle.session_values.specs.Lawful.{IsLawfulParameter, IsFollowedName, IsClientKey}
 use Rattle.session_values.specs.State.{StartKeyOf}
 use Rattle.start_keys.specs.StartPairs.{put, folded}
-use Rattle.param_track.specs.declared.StartFault.{StartFault}
+use Rattle.param_track.specs.declared.StartKeyError.{StartKeyError}
 use Rattle.param_track.specs.StartKeys.{Text, Pair, Names, user_in, database_in, is_followed, folds_to_identity, put_if_followed, parameters_in, key_at, unless}
 use Rattle.param_track.proofs.Following.{followed-is}
 use Rattle.key_laws.specs.Keys.{ArePairs}
@@ -65,11 +65,11 @@ key_at-client (Some row) database user parameters r d n u k = record {
   names = k.1;
 }
 
-abbrev IsClients : Result StartKeyOf StartFault → Type 0
+abbrev IsClients : Result StartKeyOf StartKeyError → Type 0
 IsClients (Ok key) = IsClientKey key
 IsClients (Err fault) = Unit {0}
 
-unless-client : (o : Option StartFault) (key : StartKeyOf) → IsClientKey key → IsClients (unless o key)
+unless-client : (o : Option StartKeyError) (key : StartKeyOf) → IsClientKey key → IsClients (unless o key)
 unless-client None key h = h
 unless-client (Some fault) key h = tt
 
@@ -80,5 +80,5 @@ made row names pairs r h n =
 
 pub start-client : StartKeysAreClientKeys
 start-client row names pairs key r h e =
-    subst IsClients e (choose (λ (o : Option StartFault). IsClients (unless o (key_at row (database_in pairs) (user_in pairs) (parameters_in names pairs)))) (length (user_in pairs) == 0) _ _ (λ z. tt)
+    subst IsClients e (choose (λ (o : Option StartKeyError). IsClients (unless o (key_at row (database_in pairs) (user_in pairs) (parameters_in names pairs)))) (length (user_in pairs) == 0) _ _ (λ z. tt)
     (λ z. unless-client _ (key_at row (database_in pairs) (user_in pairs) (parameters_in names pairs)) (made row names pairs r h (some-text (length (user_in pairs)) z))))

@@ -6,7 +6,7 @@ use Rattle.frame_view.specs.declared.Side.TheVariants.{Client}
 use Rattle.frame_view.specs.declared.client.TheConstants.{PASSWORD_MESSAGE, TERMINATE}
 use Rattle.frame_view.specs.declared.first.TheConstants.{PROTOCOL_3_0, CANCEL_REQUEST, SSL_REQUEST, GSSENC_REQUEST, LONGEST_FIRST_PACKET}
 use Rattle.message_view.specs.declared.KeyWord.{KeyWord}
-use Rattle.message_view.specs.declared.ViewFault.{ViewFault}
+use Rattle.message_view.specs.declared.ViewError.{ViewError}
 use Rattle.message_view.specs.declared.refusal.Refusal.{Refusal}
 use Rattle.message_view.specs.Reading.{startup_of, password_of}
 use Rattle.ini_config.specs.declared.database_rows.DbRow.{DbRow}
@@ -17,7 +17,7 @@ use Rattle.scram.specs.Messages.{FirstOf as FirstText, LastOf as LastText, first
 use Rattle.scram.specs.Wire.{initial_response_of}
 use Rattle.session_values.specs.Lawful.{IsClientKey}
 use Rattle.session_values.specs.State.{StartKeyOf}
-use Rattle.param_track.specs.declared.StartFault.{StartFault}
+use Rattle.param_track.specs.declared.StartKeyError.{StartKeyError}
 use Rattle.param_track.specs.StartKeys.{Text, Pair, Names, parameters_in, key_at, refusal, unless, start_key, database_in, user_in}
 use Rattle.key_laws.specs.Keys.{ArePairs}
 use Rattle.key_laws.proofs.ByName.{pairs_are_lawful}
@@ -45,7 +45,7 @@ both-of P Q (Err e) h k = tt
 client-of : (row : Option DbRow) (names : Names) (pairs : List Pair) → IsLawfulRow row → ArePairs pairs → OfKey IsClientKey (start_key row names pairs)
 client-of row names pairs h k = by_result (start_key row names pairs) refl
   where
-    by_result : (r : Result StartKeyOf StartFault) → start_key row names pairs ≡ r → OfKey IsClientKey r
+    by_result : (r : Result StartKeyOf StartKeyError) → start_key row names pairs ≡ r → OfKey IsClientKey r
     by_result (Ok key) e = start-client row names pairs key h k e
     by_result (Err fault) e = tt
 
@@ -81,7 +81,7 @@ module _ (rows : Rows) where
   key_at-among None database user parameters h e = subst (λ (o : Option DbRow). IsServed o (key_at None database user parameters)) e tt
   key_at-among (Some row) database user parameters h e = subst (λ (o : Option DbRow). IsServed o (key_at (Some row) database user parameters)) e (record { named = h.dbname.0; host = refl; port = refl; dbname = refl; user = h.user })
 
-  unless-among : (o : Option StartFault) (key : StartKeyOf) → IsAmong key → OfKey IsAmong (unless o key)
+  unless-among : (o : Option StartKeyError) (key : StartKeyOf) → IsAmong key → OfKey IsAmong (unless o key)
   unless-among None key h = h
   unless-among (Some fault) key h = tt
 
@@ -89,22 +89,22 @@ module _ (rows : Rows) where
   abbrev IsKey : StartKeyOf → Type 0
   IsKey key = IsClientKey key × IsAmong key
 
-  or_refusal-key : (r : Result StartKeyOf StartFault) → OfKey IsKey r → OfKey IsKey (or_refusal r)
+  or_refusal-key : (r : Result StartKeyOf StartKeyError) → OfKey IsKey r → OfKey IsKey (or_refusal r)
   or_refusal-key (Ok key) h = h
   or_refusal-key (Err fault) h = tt
 
-  abbrev AreRead : Result (List Pair) ViewFault → Type 0
+  abbrev AreRead : Result (List Pair) ViewError → Type 0
   AreRead (Ok pairs) = ArePairs pairs
   AreRead (Err fault) = Unit {0}
 
   startup-read : (body : List ℕ) → length body ≤ 10000 → AreRead (startup_of body)
   startup-read body low = by_result (startup_of body) refl
     where
-      by_result : (r : Result (List Pair) ViewFault) → startup_of body ≡ r → AreRead r
+      by_result : (r : Result (List Pair) ViewError) → startup_of body ≡ r → AreRead r
       by_result (Ok pairs) e = pairs_are_lawful body pairs low e
       by_result (Err fault) e = tt
 
-  key-made : AreLawfulRows rows → (read : Result (List Pair) ViewFault) → AreRead read → OfKey IsKey (key_of rows read)
+  key-made : AreLawfulRows rows → (read : Result (List Pair) ViewError) → AreRead read → OfKey IsKey (key_of rows read)
   key-made lawful (Err fault) h = tt
   key-made lawful (Ok pairs) h =
       let row : LoginRow = rows (database_in pairs) (user_in pairs) in
@@ -240,7 +240,7 @@ module _ (rows : Rows) where
   first-lawful lawful word tls gss AsksTls h = twice-lawful tls (AtFirst true gss) tt
   first-lawful lawful word tls gss AsksGss h = twice-lawful gss (AtFirst tls true) tt
 
-  password-lawful : (word : KeyWord) (key : StartKeyOf) (r : Result Text ViewFault) → IsKey rows key → IsLawfulReaction (to_password (rows key.row key.user) word key r)
+  password-lawful : (word : KeyWord) (key : StartKeyOf) (r : Result Text ViewError) → IsKey rows key → IsLawfulReaction (to_password (rows key.row key.user) word key r)
   password-lawful word key (Ok given) h = judged-lawful (rows key.row key.user) word key given h.0 h.1 refl
   password-lawful word key (Err fault) h = tt
 

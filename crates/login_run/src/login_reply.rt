@@ -2,7 +2,7 @@
 ghost use Rattle.std.specs.Prelude.{◌≡◌};
 ghost use Rattle.login_run.specs.Runs as spec;
 
-use login_core::{Authenticated, Failure, Question};
+use login_core::{Authenticated, LoginRefusal, Question};
 use message_view::{Refusal, refusal_bytes};
 
 /// What a client is given at a step of its login.
@@ -14,7 +14,7 @@ pub enum LoginReply {
     LetIn(Authenticated),
     /// The server's proof, before the console's AuthenticationOk; nothing where the client wasn't asked for SCRAM.
     Proof(Authenticated),
-    Failure(Failure),
+    Failure(LoginRefusal),
     Refusal(Refusal),
 }
 

@@ -3,8 +3,8 @@ use Rattle.std.proofs.Common.{◌≡◌, inl, inr, ℕ, ◌+◌, ◌^◌, ◌<�
 use Rattle.std.specs.Prelude.{map, nat_lt}
 use Rattle.std.specs.List.{flat_map, AllByRecursion}
 use Rattle.std.proofs.lemmas.Bool.{false≢true, ltb-true, ltb-false}
-use Rattle.frame_view.specs.declared.FrameFault.{FrameFault}
-use Rattle.frame_view.specs.declared.FrameFault.TheVariants.{TooShort, TooLong, UnknownType, UnknownCode}
+use Rattle.frame_view.specs.declared.FrameError.{FrameError}
+use Rattle.frame_view.specs.declared.FrameError.TheVariants.{TooShort, TooLong, UnknownType, UnknownCode}
 use Rattle.frame_view.specs.declared.Side.{Side}
 use Rattle.frame_view.specs.declared.Side.TheVariants.{Server}
 use Rattle.frame_view.specs.declared.frames.TheConstants.{LONGEST_FRAME}
@@ -36,14 +36,14 @@ server_stops (Faulty fault) side limit part rest e x = record { fault = fault; b
 
 -- ---- of the client
 
-cause_of_fault : (dies : Option ℕ) (limit : ℕ) (bytes : List ℕ) (given kept : List (List ℕ)) (fault : FrameFault) → IsAtFault limit bytes (refusal_by fault) → HasCause dies limit bytes given kept (refusal_by fault)
+cause_of_fault : (dies : Option ℕ) (limit : ℕ) (bytes : List ℕ) (given kept : List (List ℕ)) (fault : FrameError) → IsAtFault limit bytes (refusal_by fault) → HasCause dies limit bytes given kept (refusal_by fault)
 cause_of_fault dies limit bytes given kept TooShort x = x
 cause_of_fault dies limit bytes given kept TooLong x = x
 cause_of_fault dies limit bytes given kept UnknownType x = x
 cause_of_fault dies limit bytes given kept UnknownCode x = x
 
 by_client : (p : Place) (v : RelayView) (bytes : List ℕ) (r : Refusal) → IsLease p v → v.client.tells ≡ true → p.taken ≡ [] → ((some : List ℕ) → v.client.taken ≡ some → Begins some bytes) → refusal_of v.to_link.ends ≡ Some r
-    → (fault : FrameFault) × (r ≡ refusal_by fault) × IsAtFault p.limit bytes (refusal_by fault)
+    → (fault : FrameError) × (r ≡ refusal_by fault) × IsAtFault p.limit bytes (refusal_by fault)
 by_client p v bytes r x t n b e =
     let g : Begins v.client.taken bytes = b v.client.taken refl in
     let c = client_fault p v v.client.taken g.more r x t (ap (λ (l : List ℕ). l ++ v.client.taken) (sym n)) e in
@@ -51,14 +51,14 @@ by_client p v bytes r x t n b e =
 
 -- ---- of the server
 
-long_by : (limit : ℕ) (b : Bool) (f : FrameOf) (fs : List FrameOf) (fault : FrameFault) → nat_lt limit (4 + length f.body) ≡ b → limit < 2 ^ 32 → IsFrame Server LONGEST_FRAME f → front Server limit (spelling f ++ (flat_map spelling fs ++ [])) ≡ frames.Faulty fault → IsTooLong limit (map spelling (f ∷ fs))
+long_by : (limit : ℕ) (b : Bool) (f : FrameOf) (fs : List FrameOf) (fault : FrameError) → nat_lt limit (4 + length f.body) ≡ b → limit < 2 ^ 32 → IsFrame Server LONGEST_FRAME f → front Server limit (spelling f ++ (flat_map spelling fs ++ [])) ≡ frames.Faulty fault → IsTooLong limit (map spelling (f ∷ fs))
 long_by limit true f fs fault e l a s = record { next = f; others = map spelling fs; kept_is = refl; long = ltb-true limit (4 + length f.body) e }
 long_by limit false f fs fault e l a s =
     let lawful : IsFrame Server limit f = record { of_type = a.of_type; size = ltb-false limit (4 + length f.body) e } in
     let whole : front Server limit (spelling f ++ (flat_map spelling fs ++ [])) ≡ AFrame f.kind f.body (flat_map spelling fs ++ []) = front-spelling Server limit f (flat_map spelling fs ++ []) l lawful in
     absurd cc
 
-next_is_long : (limit : ℕ) (part more : List ℕ) (fault : FrameFault) (fs : List FrameOf) → limit < 2 ^ 32 → AllByRecursion (IsFrame Server LONGEST_FRAME) fs → front Server limit part ≡ frames.Faulty fault → part ++ more ≡ flat_map spelling fs ++ [] → IsTooLong limit (map spelling fs)
+next_is_long : (limit : ℕ) (part more : List ℕ) (fault : FrameError) (fs : List FrameOf) → limit < 2 ^ 32 → AllByRecursion (IsFrame Server LONGEST_FRAME) fs → front Server limit part ≡ frames.Faulty fault → part ++ more ≡ flat_map spelling fs ++ [] → IsTooLong limit (map spelling fs)
 next_is_long limit part more fault [] l a f e =
     let s : front Server limit [] ≡ frames.Faulty fault = subst (λ (b : List ℕ). front Server limit b ≡ frames.Faulty fault) e ((front-grows Server limit part more).fault fault f) in
     absurd cc

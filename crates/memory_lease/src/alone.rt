@@ -19,7 +19,7 @@ use credentials::Credential;
 use frame_view::laws::are_bytes;
 use link_start::close::close_link;
 use link_start::links::CleanLink;
-use link_start::start::{StartLinkFault, StartRefusal, start_link};
+use link_start::start::{StartLinkError, StartRefusal, start_link};
 use memory_ends::memory_server::MemoryServer;
 use message_view::{KeyWord, Refusal, refusal_bytes};
 use relay_core::Next;
@@ -59,11 +59,11 @@ impl From<AllocError> for ServeError {
 
 /// What a client is told whose link wasn't started: the server's own words, or that a server which died could not be reached. One that
 /// still waits is handed back.
-fn put_unstarted(fault: StartLinkFault<OwnServer>, out: &mut BytesMut) -> Result<(), ServeError>
+fn put_unstarted(fault: StartLinkError<OwnServer>, out: &mut BytesMut) -> Result<(), ServeError>
     ensures told { OnOk result (TellsCause fault.cause fault.end out.old.items out.new.items) }
     ensures unstarted { IfErr result (IsHandedBack fault.cause fault.end) }
 {
-    let StartLinkFault { end, cause } = fault;
+    let StartLinkError { end, cause } = fault;
     if end.is_faulty() {
         return Err(ServeError::Memory);
     }

@@ -20,7 +20,7 @@ use lease_book::events::{Event as BookEvent, Reply};
 use link_run::links::{CleanLink, UsedLink};
 use link_run::reset::reset_link;
 use link_start::close::close_link;
-use link_start::start::{StartLinkFault, StartRefusal, start_link};
+use link_start::start::{StartLinkError, StartRefusal, start_link};
 use login_core::Login;
 use memory_ends::memory_server::{MemoryServer, ServerAuth};
 use memory_start_laws::memory_servers_can_start;
@@ -87,10 +87,10 @@ impl Model for MemoryPool {
 }
 
 /// The end of a link that wasn't started, for its client.
-fn start_refusal(fault: StartLinkFault<MemoryServer>) -> Result<Taken, AllocError>
+fn start_refusal(fault: StartLinkError<MemoryServer>) -> Result<Taken, AllocError>
     ensures { IfOk result (IsStartRefusal fault.cause) }
 {
-    let StartLinkFault { end, cause } = fault;
+    let StartLinkError { end, cause } = fault;
     if end.faults() > 0 {
         return Err(AllocError);
     }
@@ -258,7 +258,7 @@ impl MemoryPool {
         key: Arc<StartKey>,
         number: u64,
         born: u64,
-    ) -> Result<CleanLink<MemoryServer>, StartLinkFault<MemoryServer>>
+    ) -> Result<CleanLink<MemoryServer>, StartLinkError<MemoryServer>>
         requires server { IsNewServer self.now.catalogue server.standing }
         requires key { IsLinkKey (arc_value key) }
         ensures home { IfOk result (IsAtHome self.now.catalogue) }

@@ -3,8 +3,8 @@ use Rattle.std.proofs.Common.{◌≡◌, ℕ, List, [], ◌∷◌, ◌++◌, Ok,
 use Rattle.std.specs.Prelude.{◌==◌, if◌then◌else◌}
 use Rattle.std.proofs.lemmas.Bool.{eqb-true}
 use Rattle.frame_view.specs.Frames.{AreBytes}
-use Rattle.message_view.specs.declared.ViewFault.{ViewFault}
-use Rattle.message_view.specs.declared.ViewFault.TheVariants.{TooShort}
+use Rattle.message_view.specs.declared.ViewError.{ViewError}
+use Rattle.message_view.specs.declared.ViewError.TheVariants.{TooShort}
 use Rattle.message_view.specs.declared.Status.{Status}
 use Rattle.message_view.specs.declared.Status.TheVariants.{Idle, InTransaction, Failed}
 use Rattle.message_view.specs.declared.kinds.TheConstants.{IDLE, IN_TRANSACTION, FAILED, STATEMENT, PORTAL}
@@ -33,14 +33,14 @@ unfolding target_of
 target-again (OfStatement name) h = rw (text_again name h) refl
 target-again (OfPortal name) h = rw (text_again name h) refl
 
-abbrev target-or : Result Target ViewFault → Target → Target
+abbrev target-or : Result Target ViewError → Target → Target
 target-or (Ok t) d = t
 target-or (Err f) d = d
 
-abbrev statement : Text → Result Target ViewFault
+abbrev statement : Text → Result Target ViewError
 statement t = Ok (OfStatement t)
 
-abbrev portal : Text → Result Target ViewFault
+abbrev portal : Text → Result Target ViewError
 portal t = Ok (OfPortal t)
 
 named : (b k : ℕ) (body : List ℕ) (make : Text → Target) (t : Target) → ((n : Text) → HasNoZero n → FitsTarget (make n)) → ((n : Text) → target_body (make n) ≡ k ∷ text n)
@@ -48,7 +48,7 @@ named : (b k : ℕ) (body : List ℕ) (make : Text → Target) (t : Target) → 
 named b k body make t fit spell is fits e =
     let n = bind-inv (alone (text_at body)) (λ (m : Text). Ok (make m)) t e in
     let p = text_alone body n.0 fits n.1 in
-    let same : make n.0 ≡ t = ap (λ (r : Result Target ViewFault). target-or r (make n.0)) n.2 in
+    let same : make n.0 ≡ t = ap (λ (r : Result Target ViewError). target-or r (make n.0)) n.2 in
     subst (λ (u : Target). FitsTarget u × (b ∷ body ≡ target_body u)) same
     (fit n.0 p.0, ap (λ (j : ℕ). j ∷ body) is ∙ ap (λ (z : List ℕ). k ∷ z) p.1 ∙ sym (spell n.0))
 
@@ -74,15 +74,15 @@ ready-again Idle u = refl
 ready-again InTransaction u = refl
 ready-again Failed u = refl
 
-abbrev status-or : Result Status ViewFault → Status → Status
+abbrev status-or : Result Status ViewError → Status → Status
 status-or (Ok s) d = s
 status-or (Err f) d = d
 
 byte-of : (b : ℕ) (s : Status) (i t e : Bool) → (b == IDLE) ≡ i → (b == IN_TRANSACTION) ≡ t → (b == FAILED) ≡ e
     → (if i then Ok Idle else (if t then Ok InTransaction else (if e then Ok Failed else Err TooShort))) ≡ Ok s → b ≡ status_byte s
-byte-of b s true t e i-is t-is e-is is = eqb-true b IDLE i-is ∙ ap (λ (r : Result Status ViewFault). status_byte (status-or r Idle)) is
-byte-of b s false true e i-is t-is e-is is = eqb-true b IN_TRANSACTION t-is ∙ ap (λ (r : Result Status ViewFault). status_byte (status-or r InTransaction)) is
-byte-of b s false false true i-is t-is e-is is = eqb-true b FAILED e-is ∙ ap (λ (r : Result Status ViewFault). status_byte (status-or r Failed)) is
+byte-of b s true t e i-is t-is e-is is = eqb-true b IDLE i-is ∙ ap (λ (r : Result Status ViewError). status_byte (status-or r Idle)) is
+byte-of b s false true e i-is t-is e-is is = eqb-true b IN_TRANSACTION t-is ∙ ap (λ (r : Result Status ViewError). status_byte (status-or r InTransaction)) is
+byte-of b s false false true i-is t-is e-is is = eqb-true b FAILED e-is ∙ ap (λ (r : Result Status ViewError). status_byte (status-or r Failed)) is
 byte-of b s false false false i-is t-is e-is is = absurd (cc)
 
 ready-only : (body : List ℕ) (s : Status) → AreBytes body → ready_of body ≡ Ok s → Unit {0} × (body ≡ status_byte s ∷ [])

@@ -6,7 +6,7 @@ use Rattle.std.proofs.lemmas.List.{get_or-append-add, take-append-drop}
 use Rattle.std.proofs.lemmas.Bool.{ne_eqb, eqb-true, eqb-false, ltb-true, ltb-false, lt-ltb, le-ltb}
 use Rattle.std.proofs.Math.Seq.{take-append_seam, drop-append_seam}
 use Rattle.frame_view.specs.Frames.{AreBytes}
-use Rattle.message_view.specs.declared.ViewFault.TheVariants.{TooShort, BadLength}
+use Rattle.message_view.specs.declared.ViewError.TheVariants.{TooShort, BadLength}
 use Rattle.message_view.specs.Bodies.{Text, HasNoZero, is_natural32, minus_one32, text, int16, int32, value}
 use Rattle.message_view.specs.Spelled.{Fits16, Fits32, FitsValue}
 use Rattle.message_view.specs.Reading.{Part, ◌>>=◌, with_first, text_at, int16_at, int32_at, bytes_at, value_of_length, value_at}

@@ -4,7 +4,7 @@ use Rattle.frame_view.specs.declared.Side.TheVariants.{Client, Server}
 use Rattle.frame_view.specs.declared.first.TheConstants.{LONGEST_FIRST_PACKET}
 use Rattle.frame_view.specs.Frames.{AreBytes, FrameOf, spelling, before, frames, Cancels, Start, AFirst, first_front}
 use Rattle.message_view.specs.declared.kinds.TheConstants.{ASKS_NOTHING, ASKS_CLEARTEXT, ASKS_MD5, IDLE, IN_TRANSACTION, FAILED, STATEMENT, PORTAL, SEVERITY, SEVERITY_UNTRANSLATED, SQLSTATE, MESSAGE, TEXT_TYPE}
-use Rattle.message_view.specs.declared.ViewFault.{ViewFault}
+use Rattle.message_view.specs.declared.ViewError.{ViewError}
 use Rattle.message_view.specs.Bodies.{Text, startup_body}
 use Rattle.message_view.specs.Messages.{cancel_request, password_message, query, startup_message}
 
@@ -18,7 +18,7 @@ pub record NamesAreTheStandards : Type 0 where
 
 -- Parts that fit are read again from the body that they spell, and a body is read as parts only
 -- where they fit and spell it.
-pub record IsReaderOf {A : Type 0} (read : List ℕ → Result A ViewFault) (spell : A → List ℕ) (Fits : A → Type 0) : Type 0 where
+pub record IsReaderOf {A : Type 0} (read : List ℕ → Result A ViewError) (spell : A → List ℕ) (Fits : A → Type 0) : Type 0 where
   pub again : (parts : A) → Fits parts → read (spell parts) ≡ Ok parts
   pub only : (body : List ℕ) (parts : A) → AreBytes body → read body ≡ Ok parts → Fits parts × (body ≡ spell parts)
 

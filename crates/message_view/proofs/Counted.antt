@@ -1,8 +1,8 @@
 -- Lists with a count before them.
 use Rattle.std.proofs.Common.{◌≡◌, ◌<◌, ℕ, zero, suc, List, [], ◌∷◌, length, Ok, Err, refl, ap, sym, ◌∙◌, true, false, arith}
 use Rattle.std.specs.Prelude.{is_ok}
-use Rattle.message_view.specs.declared.ViewFault.{ViewFault}
-use Rattle.message_view.specs.declared.ViewFault.TheVariants.{LeftOver}
+use Rattle.message_view.specs.declared.ViewError.{ViewError}
+use Rattle.message_view.specs.declared.ViewError.TheVariants.{LeftOver}
 use Rattle.message_view.proofs.Pieces.{rest-more, more-items, found, fault}
 use Rattle.message_view.specs.Reading.{Part, ◌>>=◌, rest_of, items_of, list_at, at_end}
 
@@ -21,7 +21,7 @@ module _ {A : Type 0} (item : List ℕ → Part A) where
   unfolding list_at
   list_goes_on n m bytes rest x e is = ap (λ k. rest_of (list_at item k bytes)) e ∙ rw is (rest-more x (list_at item m rest))
 
-  pub list_breaks : (n : ℕ) (bytes : List ℕ) (fault : ViewFault) → 0 < n → item bytes ≡ Err fault → rest_of (list_at item n bytes) ≡ Err fault
+  pub list_breaks : (n : ℕ) (bytes : List ℕ) (fault : ViewError) → 0 < n → item bytes ≡ Err fault → rest_of (list_at item n bytes) ≡ Err fault
   unfolding list_at
   list_breaks zero bytes fault h is = absurd (omega arith)
   list_breaks (suc n) bytes fault h is = rw is refl
@@ -32,7 +32,7 @@ module _ {A : Type 0} (item : List ℕ → Part A) where
   pub list_there : (n : ℕ) (bytes rest : List ℕ) → rest_of (list_at item n bytes) ≡ Ok rest → is_ok (list_at item n bytes) ≡ true
   list_there n bytes rest e = ap is_ok (list_found n bytes rest e)
 
-  pub list_fault : (n : ℕ) (bytes : List ℕ) (f : ViewFault) → rest_of (list_at item n bytes) ≡ Err f → list_at item n bytes ≡ Err f
+  pub list_fault : (n : ℕ) (bytes : List ℕ) (f : ViewError) → rest_of (list_at item n bytes) ≡ Err f → list_at item n bytes ≡ Err f
   list_fault n bytes f e = fault (list_at item n bytes) f e
 
   -- ---- the items of a list that is there
@@ -41,13 +41,13 @@ module _ {A : Type 0} (item : List ℕ → Part A) where
   unfolding list_at
   none_is_left n bytes e = ap (λ m. items_of (list_at item m bytes)) e
 
-  pub item_is_there : (n m : ℕ) (bytes : List ℕ) (f : ViewFault) → n ≡ suc m → item bytes ≡ Err f → is_ok (list_at item n bytes) ≡ true → ⊥
+  pub item_is_there : (n m : ℕ) (bytes : List ℕ) (f : ViewError) → n ≡ suc m → item bytes ≡ Err f → is_ok (list_at item n bytes) ≡ true → ⊥
   unfolding list_at
   item_is_there n m bytes f e is ok =
       let no : is_ok (list_at item n bytes) ≡ false = ap (λ k. is_ok (list_at item k bytes)) e ∙ rw is refl in
       cc
 
-  pub broken_is_empty : (n : ℕ) (bytes : List ℕ) (f : ViewFault) → 0 < n → item bytes ≡ Err f → items_of (list_at item n bytes) ≡ []
+  pub broken_is_empty : (n : ℕ) (bytes : List ℕ) (f : ViewError) → 0 < n → item bytes ≡ Err f → items_of (list_at item n bytes) ≡ []
   unfolding list_at
   broken_is_empty zero bytes f h is = refl
   broken_is_empty (suc n) bytes f h is = rw is refl

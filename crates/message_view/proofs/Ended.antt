@@ -1,7 +1,7 @@
 -- Lists that an item of their own ends.
 use Rattle.std.proofs.Common.{◌≡◌, ◌<◌, ℕ, zero, suc, List, [], ◌∷◌, length, Option, Some, None, Ok, Err, refl, ap, sym, ◌∙◌, true, arith}
 use Rattle.std.specs.Prelude.{is_ok}
-use Rattle.message_view.specs.declared.ViewFault.{ViewFault}
+use Rattle.message_view.specs.declared.ViewError.{ViewError}
 use Rattle.message_view.proofs.Pieces.{rest-more, more-items, found, fault}
 use Rattle.message_view.specs.Reading.{Part, ◌>>=◌, rest_of, items_of, and_more, list_until, ended_at}
 
@@ -33,7 +33,7 @@ module _ {A : Type 0} (item : List ℕ → Part (Option A)) (shrinks : (bytes re
   pub ended_none : (bytes rest : List ℕ) → item bytes ≡ Ok (None, rest) → ended_at item bytes ≡ Ok ([], rest)
   ended_none bytes rest is = ended bytes ∙ rw is refl
 
-  pub ended_fault : (bytes : List ℕ) (f : ViewFault) → item bytes ≡ Err f → ended_at item bytes ≡ Err f
+  pub ended_fault : (bytes : List ℕ) (f : ViewError) → item bytes ≡ Err f → ended_at item bytes ≡ Err f
   ended_fault bytes f is = ended bytes ∙ rw is refl
 
   ended-more : (bytes rest : List ℕ) (x : A) → item bytes ≡ Ok (Some x, rest) → ended_at item bytes ≡ (ended_at item rest >>= λ others. Ok (x ∷ others.0, others.1))
@@ -54,10 +54,10 @@ module _ {A : Type 0} (item : List ℕ → Part (Option A)) (shrinks : (bytes re
   pub list_goes_on : (bytes rest : List ℕ) (x : A) → item bytes ≡ Ok (Some x, rest) → rest_of (ended_at item bytes) ≡ rest_of (ended_at item rest)
   list_goes_on bytes rest x is = ended_rest bytes rest x is
 
-  pub list_breaks : (bytes : List ℕ) (f : ViewFault) → item bytes ≡ Err f → rest_of (ended_at item bytes) ≡ Err f
+  pub list_breaks : (bytes : List ℕ) (f : ViewError) → item bytes ≡ Err f → rest_of (ended_at item bytes) ≡ Err f
   list_breaks bytes f is = ap rest_of (ended_fault bytes f is)
 
-  pub no_item : (bytes : List ℕ) (f : ViewFault) → item bytes ≡ Err f → items_of (ended_at item bytes) ≡ []
+  pub no_item : (bytes : List ℕ) (f : ViewError) → item bytes ≡ Err f → items_of (ended_at item bytes) ≡ []
   no_item bytes f is = ap items_of (ended_fault bytes f is)
 
   pub item_is_first : (bytes rest : List ℕ) (x : A) → item bytes ≡ Ok (Some x, rest) → is_ok (ended_at item bytes) ≡ true → items_of (ended_at item bytes) ≡ x ∷ items_of (ended_at item rest)
@@ -72,5 +72,5 @@ ended_found item bytes rest e = found (ended_at item bytes) rest e
 pub ended_there : {A : Type 0} (item : List ℕ → Part (Option A)) (bytes rest : List ℕ) → rest_of (ended_at item bytes) ≡ Ok rest → is_ok (ended_at item bytes) ≡ true
 ended_there item bytes rest e = ap is_ok (ended_found item bytes rest e)
 
-pub ended_broken : {A : Type 0} (item : List ℕ → Part (Option A)) (bytes : List ℕ) (f : ViewFault) → rest_of (ended_at item bytes) ≡ Err f → ended_at item bytes ≡ Err f
+pub ended_broken : {A : Type 0} (item : List ℕ → Part (Option A)) (bytes : List ℕ) (f : ViewError) → rest_of (ended_at item bytes) ≡ Err f → ended_at item bytes ≡ Err f
 ended_broken item bytes f e = fault (ended_at item bytes) f e

@@ -4,7 +4,7 @@ use Rattle.std.proofs.lemmas.List.{take_all}
 use Rattle.std.specs.Int.{w16, w32, cast_signed, cast_unsigned}
 use Rattle.std.proofs.lemmas.Int.{of_z-to_z}
 use Rattle.byteorder.specs.Endian.{big_number}
-use Rattle.message_view.specs.declared.ViewFault.TheVariants.{TooShort}
+use Rattle.message_view.specs.declared.ViewError.TheVariants.{TooShort}
 use Rattle.message_view.specs.Reading.{int16_at, int32_at}
 
 pub int16_at_whole : (bytes : List ℕ) → 2 ≤ length bytes → int16_at bytes ≡ Ok (big_number 2 bytes, drop 2 bytes)

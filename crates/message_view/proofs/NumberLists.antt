@@ -4,7 +4,7 @@ use Rattle.std.specs.Prelude.{is_ok, nat_lt}
 use Rattle.std.proofs.lemmas.Bool.{ltb-true, ltb-false}
 use Rattle.std.proofs.lemmas.List.{drop-drop}
 use Rattle.byteorder.specs.Endian.{big_number}
-use Rattle.message_view.specs.declared.ViewFault.TheVariants.{TooShort}
+use Rattle.message_view.specs.declared.ViewError.TheVariants.{TooShort}
 use Rattle.message_view.specs.Reading.{Part, rest_of, items_of, list_at, int16_at, int32_at}
 use Rattle.message_view.proofs.Counted.{list_ends, list_goes_on, list_breaks, list_found, list_there, list_fault}
 use Rattle.message_view.proofs.Ints.{int16_at_whole, int16_at_short, int32_at_whole, int32_at_short}

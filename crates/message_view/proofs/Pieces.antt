@@ -1,6 +1,6 @@
 -- Equal answers of readers have equal parts.
 use Rattle.std.proofs.Common.{◌≡◌, ℕ, List, [], ◌∷◌, Result, Ok, Err, ap, refl, subst, true}
-use Rattle.message_view.specs.declared.ViewFault.{ViewFault}
+use Rattle.message_view.specs.declared.ViewError.{ViewError}
 use Rattle.std.specs.Prelude.{is_ok}
 use Rattle.message_view.specs.Reading.{Part, ◌>>=◌, rest_of, items_of, at_end}
 
@@ -21,16 +21,16 @@ same_rest {A} {x} {y} e = ap (λ (p : Part A). rest-or p x.1) e
 pub same_part : {A : Type 0} {x y : A × List ℕ} → given x ≡ given y → x.0 ≡ y.0
 same_part {A} {x} {y} e = ap (λ (p : Part A). part-or p x.0) e
 
-pub bind-inv : {A B : Type 0} (part : Result A ViewFault) (f : A → Result B ViewFault) (y : B) → (part >>= f) ≡ Ok y → (x : A) × (part ≡ Ok x) × (f x ≡ Ok y)
+pub bind-inv : {A B : Type 0} (part : Result A ViewError) (f : A → Result B ViewError) (y : B) → (part >>= f) ≡ Ok y → (x : A) × (part ≡ Ok x) × (f x ≡ Ok y)
 bind-inv (Ok x) f y e = (x, refl, e)
 bind-inv (Err g) f y e = absurd (cc)
 
-abbrev ok-or : {A : Type 0} → Result A ViewFault → A → A
+abbrev ok-or : {A : Type 0} → Result A ViewError → A → A
 ok-or (Ok x) y = x
 ok-or (Err f) y = y
 
 pub at_end-inv : {A : Type 0} (x y : A) (bytes : List ℕ) → at_end x bytes ≡ Ok y → (x ≡ y) × (bytes ≡ [])
-at_end-inv {A} x y [] e = (ap (λ (r : Result A ViewFault). ok-or r x) e, refl)
+at_end-inv {A} x y [] e = (ap (λ (r : Result A ViewError). ok-or r x) e, refl)
 at_end-inv x y (b ∷ bytes) e = absurd (cc)
 
 -- a fact of a part and its rest holds of the equal ones
@@ -52,6 +52,6 @@ pub found : {A : Type 0} (part : Part (List A)) (rest : List ℕ) → rest_of pa
 found (Ok x) rest e = ap (λ r. Ok (x.0, r)) (cc)
 found (Err f) rest e = absurd (cc)
 
-pub fault : {A : Type 0} (part : Part (List A)) (f : ViewFault) → rest_of part ≡ Err f → part ≡ Err f
+pub fault : {A : Type 0} (part : Part (List A)) (f : ViewError) → rest_of part ≡ Err f → part ≡ Err f
 fault (Ok x) f e = absurd (cc)
 fault (Err g) f e = ap Err (cc)

@@ -1,8 +1,8 @@
 -- Which parts a body spells, or else the first fault from the left.
 use Rattle.std.specs.Prelude.{ℕ, zero, suc, ◌+◌, ◌*◌, List, [], ◌∷◌, length, take, drop, Option, Some, None, Result, Ok, Err, nat_lt, ◌==◌, if◌then◌else◌}
 use Rattle.frame_view.specs.Frames.{number}
-use Rattle.message_view.specs.declared.ViewFault.{ViewFault}
-use Rattle.message_view.specs.declared.ViewFault.TheVariants.{TooShort, NoZero, LeftOver, BadLength}
+use Rattle.message_view.specs.declared.ViewError.{ViewError}
+use Rattle.message_view.specs.declared.ViewError.TheVariants.{TooShort, NoZero, LeftOver, BadLength}
 use Rattle.message_view.specs.declared.Status.{Status}
 use Rattle.message_view.specs.declared.Status.TheVariants.{Idle, InTransaction, Failed}
 use Rattle.message_view.specs.declared.kinds.TheConstants.{IDLE, IN_TRANSACTION, FAILED, STATEMENT, PORTAL}
@@ -10,15 +10,15 @@ use Rattle.message_view.specs.Bodies.{Text, is_natural32, minus_one32, ColumnOf,
 
 -- what a reader gives: a part, and the bytes after it
 abbrev pub Part : Type 0 → Type 0
-Part A = Result (A × List ℕ) ViewFault
+Part A = Result (A × List ℕ) ViewError
 
 infixl 10 ◌>>=◌
-abbrev pub ◌>>=◌ : {A B : Type 0} → Result A ViewFault → (A → Result B ViewFault) → Result B ViewFault
+abbrev pub ◌>>=◌ : {A B : Type 0} → Result A ViewError → (A → Result B ViewError) → Result B ViewError
 (Err e) >>= f = Err e
 (Ok x) >>= f = f x
 
 -- the bytes after the part
-abbrev pub rest_of : {A : Type 0} → Part A → Result (List ℕ) ViewFault
+abbrev pub rest_of : {A : Type 0} → Part A → Result (List ℕ) ViewError
 rest_of part = part >>= λ x. Ok x.1
 
 abbrev pub with_first : ℕ → Part Text → Part Text
@@ -108,21 +108,21 @@ ended_at item bytes = list_until item (suc (length bytes)) bytes
 
 -- ---- bodies
 
-abbrev pub at_end : {A : Type 0} → A → List ℕ → Result A ViewFault
+abbrev pub at_end : {A : Type 0} → A → List ℕ → Result A ViewError
 at_end x [] = Ok x
 at_end x (b ∷ bytes) = Err LeftOver
 
-abbrev pub alone : {A : Type 0} → Part A → Result A ViewFault
+abbrev pub alone : {A : Type 0} → Part A → Result A ViewError
 alone part = part >>= λ x. at_end x.0 x.1
 
 -- what follows the code of a StartupMessage
-unfoldable pub startup_of : List ℕ → Result (List (Text × Text)) ViewFault
+unfoldable pub startup_of : List ℕ → Result (List (Text × Text)) ViewError
 startup_of body = alone (ended_at pair_at body)
 
-unfoldable pub password_of : List ℕ → Result Text ViewFault
+unfoldable pub password_of : List ℕ → Result Text ViewError
 password_of body = alone (text_at body)
 
-unfoldable pub query_of : List ℕ → Result Text ViewFault
+unfoldable pub query_of : List ℕ → Result Text ViewError
 query_of body = alone (text_at body)
 
 abbrev pub parse_at : List ℕ → Part Parse
@@ -132,7 +132,7 @@ parse_at body = do
   oids ← counted_at int32_at query.1
   Ok (record { name = name.0; query = query.0; oids = oids.0 }, oids.1)
 
-unfoldable pub parse_of : List ℕ → Result Parse ViewFault
+unfoldable pub parse_of : List ℕ → Result Parse ViewError
 parse_of body = alone (parse_at body)
 
 abbrev pub bind_at : List ℕ → Part Bind
@@ -144,11 +144,11 @@ bind_at body = do
   results ← counted_at int16_at given.1
   Ok (record { portal = portal.0; statement = statement.0; formats = formats.0; given = given.0; results = results.0 }, results.1)
 
-unfoldable pub bind_of : List ℕ → Result Bind ViewFault
+unfoldable pub bind_of : List ℕ → Result Bind ViewError
 bind_of body = alone (bind_at body)
 
 -- the body of a Describe or a Close: what it is about, and a name
-unfoldable pub target_of : List ℕ → Result Target ViewFault
+unfoldable pub target_of : List ℕ → Result Target ViewError
 target_of [] = Err TooShort
 target_of (b ∷ body) =
     if b == STATEMENT then (alone (text_at body) >>= λ t. Ok (OfStatement t))
@@ -160,11 +160,11 @@ execute_at body = do
   limit ← int32_at portal.1
   Ok ((portal.0, limit.0), limit.1)
 
-unfoldable pub execute_of : List ℕ → Result (Text × ℕ) ViewFault
+unfoldable pub execute_of : List ℕ → Result (Text × ℕ) ViewError
 execute_of body = alone (execute_at body)
 
 -- the number of an authentication message, and the rest
-unfoldable pub authentication_of : List ℕ → Result (ℕ × List ℕ) ViewFault
+unfoldable pub authentication_of : List ℕ → Result (ℕ × List ℕ) ViewError
 authentication_of body = int32_at body
 
 abbrev pub key_at : List ℕ → Part (ℕ × ℕ)
@@ -173,7 +173,7 @@ key_at body = do
   secret ← int32_at pid.1
   Ok ((pid.0, secret.0), secret.1)
 
-unfoldable pub key_of : List ℕ → Result (ℕ × ℕ) ViewFault
+unfoldable pub key_of : List ℕ → Result (ℕ × ℕ) ViewError
 key_of body = alone (key_at body)
 
 abbrev pub status_at : List ℕ → Part (Text × Text)
@@ -182,25 +182,25 @@ status_at body = do
   setting ← text_at name.1
   Ok ((name.0, setting.0), setting.1)
 
-unfoldable pub status_of : List ℕ → Result (Text × Text) ViewFault
+unfoldable pub status_of : List ℕ → Result (Text × Text) ViewError
 status_of body = alone (status_at body)
 
-abbrev pub status_named : ℕ → Result Status ViewFault
+abbrev pub status_named : ℕ → Result Status ViewError
 status_named b = if b == IDLE then Ok Idle else (if b == IN_TRANSACTION then Ok InTransaction else (if b == FAILED then Ok Failed else Err TooShort))
 
-unfoldable pub ready_of : List ℕ → Result Status ViewFault
+unfoldable pub ready_of : List ℕ → Result Status ViewError
 ready_of [] = Err TooShort
 ready_of (b ∷ body) = status_named b >>= λ status. at_end status body
 
-unfoldable pub tag_of : List ℕ → Result Text ViewFault
+unfoldable pub tag_of : List ℕ → Result Text ViewError
 tag_of body = alone (text_at body)
 
-unfoldable pub row_description_of : List ℕ → Result (List ColumnOf) ViewFault
+unfoldable pub row_description_of : List ℕ → Result (List ColumnOf) ViewError
 row_description_of body = alone (counted_at column_at body)
 
-unfoldable pub data_row_of : List ℕ → Result (List (Option Text)) ViewFault
+unfoldable pub data_row_of : List ℕ → Result (List (Option Text)) ViewError
 data_row_of body = alone (counted_at value_at body)
 
 -- the fields of an error or a notice
-unfoldable pub note_of : List ℕ → Result (List (ℕ × Text)) ViewFault
+unfoldable pub note_of : List ℕ → Result (List (ℕ × Text)) ViewError
 note_of body = alone (ended_at field_at body)

@@ -7,7 +7,7 @@ ghost use Rattle.message_view.specs.Reading.{ended_at, field_at, rest_of, note_o
 ghost use Rattle.message_view.specs.Views.{Shows, code_and_text_of};
 
 use crate::parts::take_field;
-use crate::{Fields, ViewFault};
+use crate::{Fields, ViewError};
 
 /// A server's ErrorResponse or NoticeResponse.
 #[derive(Clone, Copy, Drop)]
@@ -42,7 +42,7 @@ impl<'a> Iterator for Fields<'a> {
 
 /// What follows the zero byte that ends the fields.
 #[tactic(auto, using(crate::proofs::Fieldings::field_shrinks, crate::proofs::Fieldings::fields_end, crate::proofs::Ended::list_goes_on, crate::proofs::Ended::list_breaks))]
-fn skip_fields(bytes: &[u8]) -> Result<&[u8], ViewFault>
+fn skip_fields(bytes: &[u8]) -> Result<&[u8], ViewError>
     ensures { Shows (λ r. r.now) result (rest_of (ended_at field_at bytes.now)) }
 {
     let mut rest = bytes;
@@ -57,15 +57,15 @@ fn skip_fields(bytes: &[u8]) -> Result<&[u8], ViewFault>
 
 impl<'a> NoteView<'a> {
     /// Reads the body of an ErrorResponse or a NoticeResponse: fields of a code and a text, and
-    /// the zero byte that ends them. [`ViewFault::TooShort`]: neither a code nor that byte. [`ViewFault::NoZero`]: a
-    /// text without its end. [`ViewFault::LeftOver`]: bytes after the fields.
+    /// the zero byte that ends them. [`ViewError::TooShort`]: neither a code nor that byte. [`ViewError::NoZero`]: a
+    /// text without its end. [`ViewError::LeftOver`]: bytes after the fields.
     #[tactic(auto, using(crate::proofs::Ended::ended_found, crate::proofs::Ended::ended_there, crate::proofs::Ended::ended_broken), unfolding(crate::specs::Reading::note_of))]
-    pub fn read(body: &'a [u8]) -> Result<NoteView<'a>, ViewFault>
+    pub fn read(body: &'a [u8]) -> Result<NoteView<'a>, ViewError>
         ensures parts { Shows (λ v. fields_left v.fields) result (note_of body.now) }
         ensures place { IfOk result (λ v. LiesAt v.fields.rest body.entry 0) }
     {
         if !skip_fields(body)?.is_empty() {
-            return Err(ViewFault::LeftOver);
+            return Err(ViewError::LeftOver);
         }
         let fields = Fields { rest: body };
         Ok(NoteView { fields })

@@ -6,7 +6,7 @@ ghost use Rattle.message_view.specs.Reading.{counted_at, int16_at, int32_at};
 ghost use Rattle.message_view.specs.Views.{Gives};
 
 use crate::parts::{bytes_after, take_u16, take_u32};
-use crate::{Codes, Oids, ViewFault};
+use crate::{Codes, Oids, ViewError};
 
 impl<'a> Iterator for Codes<'a> {
     ghost use Rattle.std.specs.Iterator.{YieldsFirst, item_count};
@@ -48,7 +48,7 @@ impl<'a> Iterator for Oids<'a> {
 
 /// A count and as many format codes.
 #[tactic(auto, using(crate::proofs::NumberLists::codes_there, crate::proofs::NumberLists::codes_ok, crate::proofs::NumberLists::codes_short, crate::proofs::Counted::items_count))]
-pub(crate) fn take_codes(bytes: &[u8]) -> Result<(Codes<'_>, &[u8]), ViewFault>
+pub(crate) fn take_codes(bytes: &[u8]) -> Result<(Codes<'_>, &[u8]), ViewError>
     ensures part { Gives codes_left result (counted_at int16_at bytes.now) }
     ensures place { IfOk result (λ x. LiesAt x.1 bytes.entry (2 + 2 * length (codes_left x.0))) }
 {
@@ -59,7 +59,7 @@ pub(crate) fn take_codes(bytes: &[u8]) -> Result<(Codes<'_>, &[u8]), ViewFault>
 
 /// A count and as many type oids.
 #[tactic(auto, using(crate::proofs::NumberLists::oids_there, crate::proofs::NumberLists::oids_ok, crate::proofs::NumberLists::oids_short))]
-pub(crate) fn take_oids(bytes: &[u8]) -> Result<(Oids<'_>, &[u8]), ViewFault>
+pub(crate) fn take_oids(bytes: &[u8]) -> Result<(Oids<'_>, &[u8]), ViewError>
     ensures { Gives oids_left result (counted_at int32_at bytes.now) }
 {
     let (left, rest) = take_u16(bytes)?;

@@ -10,7 +10,7 @@ ghost use Rattle.message_view.specs.Views.{LiesIfAny, Shows, value_place};
 use crate::number_lists::{take_codes, take_oids};
 use crate::parts::take_text;
 use crate::values::take_values;
-use crate::{Codes, Oids, Values, ViewFault};
+use crate::{Codes, Oids, Values, ViewError};
 
 /// A client's Parse: the statement's name, its text, and the type oids of its parameters.
 #[derive(Clone, Copy, Drop)]
@@ -32,11 +32,11 @@ pub struct BindView<'a> {
 }
 
 impl<'a> ParseView<'a> {
-    /// Reads the body of a Parse: two texts, a count and its oids. [`ViewFault::NoZero`]: a text without
-    /// its end. [`ViewFault::TooShort`]: fewer bytes than the count asks for. [`ViewFault::LeftOver`]: bytes
+    /// Reads the body of a Parse: two texts, a count and its oids. [`ViewError::NoZero`]: a text without
+    /// its end. [`ViewError::TooShort`]: fewer bytes than the count asks for. [`ViewError::LeftOver`]: bytes
     /// after the oids.
     #[tactic(auto, unfolding(crate::specs::Reading::parse_of))]
-    pub fn read(body: &'a [u8]) -> Result<ParseView<'a>, ViewFault>
+    pub fn read(body: &'a [u8]) -> Result<ParseView<'a>, ViewError>
         ensures parts { Shows shown_parse result (parse_of body.now) }
         ensures name { IfOk result (λ v. LiesAt v.name body.entry 0) }
         ensures query { IfOk result (λ v. LiesAt v.query body.entry (1 + length v.name.now)) }
@@ -45,7 +45,7 @@ impl<'a> ParseView<'a> {
         let (query, rest) = take_text(rest)?;
         let (oids, rest) = take_oids(rest)?;
         if !rest.is_empty() {
-            return Err(ViewFault::LeftOver);
+            return Err(ViewError::LeftOver);
         }
         Ok(ParseView { name, query, oids })
     }
@@ -53,11 +53,11 @@ impl<'a> ParseView<'a> {
 
 impl<'a> BindView<'a> {
     /// Reads the body of a Bind: two texts, the formats, the values and the formats of the
-    /// results. [`ViewFault::NoZero`]: a text without its end. [`ViewFault::TooShort`]: fewer bytes than a
-    /// count or a length asks for. [`ViewFault::BadLength`]: a length below -1.
-    /// [`ViewFault::LeftOver`]: bytes after the last part.
+    /// results. [`ViewError::NoZero`]: a text without its end. [`ViewError::TooShort`]: fewer bytes than a
+    /// count or a length asks for. [`ViewError::BadLength`]: a length below -1.
+    /// [`ViewError::LeftOver`]: bytes after the last part.
     #[tactic(auto, unfolding(crate::specs::Reading::bind_of))]
-    pub fn read(body: &'a [u8]) -> Result<BindView<'a>, ViewFault>
+    pub fn read(body: &'a [u8]) -> Result<BindView<'a>, ViewError>
         ensures parts { Shows shown_bind result (bind_of body.now) }
         ensures portal { IfOk result (λ v. LiesAt v.portal body.entry 0) }
         ensures statement { IfOk result (λ v. LiesAt v.statement body.entry (1 + length v.portal.now)) }
@@ -69,7 +69,7 @@ impl<'a> BindView<'a> {
         let (given, rest) = take_values(rest)?;
         let (results, rest) = take_codes(rest)?;
         if !rest.is_empty() {
-            return Err(ViewFault::LeftOver);
+            return Err(ViewError::LeftOver);
         }
         Ok(BindView {
             portal,

@@ -9,7 +9,7 @@ ghost use Rattle.message_view.specs.Views.{Gives, LiesIfAny, Shows, value_place}
 
 use crate::parts::{take_text, take_u16, take_u32};
 use crate::values::take_values;
-use crate::{ColumnView, Columns, Values, ViewFault};
+use crate::{ColumnView, Columns, Values, ViewError};
 
 /// A server's DataRow.
 #[derive(Clone, Copy, Drop)]
@@ -18,17 +18,17 @@ pub struct DataRowView<'a> {
 }
 
 impl<'a> DataRowView<'a> {
-    /// Reads the body of a DataRow: a count and its values. [`ViewFault::TooShort`]: fewer bytes than
-    /// the count or a length asks for. [`ViewFault::BadLength`]: a length below -1.
-    /// [`ViewFault::LeftOver`]: bytes after the last.
+    /// Reads the body of a DataRow: a count and its values. [`ViewError::TooShort`]: fewer bytes than
+    /// the count or a length asks for. [`ViewError::BadLength`]: a length below -1.
+    /// [`ViewError::LeftOver`]: bytes after the last.
     #[tactic(auto, unfolding(crate::specs::Reading::data_row_of))]
-    pub fn read(body: &'a [u8]) -> Result<DataRowView<'a>, ViewFault>
+    pub fn read(body: &'a [u8]) -> Result<DataRowView<'a>, ViewError>
         ensures parts { Shows (λ v. values_left v.row) result (data_row_of body.now) }
         ensures place { IfOk result (λ v. LiesAt v.row.rest body.entry 2) }
     {
         let (row, rest) = take_values(body)?;
         if !rest.is_empty() {
-            return Err(ViewFault::LeftOver);
+            return Err(ViewError::LeftOver);
         }
         Ok(DataRowView { row })
     }
@@ -51,7 +51,7 @@ impl<'a> DataRowView<'a> {
 
 /// A column.
 #[tactic(auto, using(crate::proofs::Ints::signed_back, crate::proofs::Ints::signed_back_16), unfolding(crate::specs::Reading::column_at))]
-fn take_column(bytes: &[u8]) -> Result<(ColumnView<'_>, &[u8]), ViewFault>
+fn take_column(bytes: &[u8]) -> Result<(ColumnView<'_>, &[u8]), ViewError>
     ensures part { Gives shown_column result (column_at bytes.now) }
     ensures place { IfOk result (λ x. LiesAt x.0.name bytes.entry 0 × LiesAt x.1 bytes.entry (19 + length x.0.name.now)) }
 {
@@ -100,7 +100,7 @@ impl<'a> Iterator for Columns<'a> {
 
 /// What follows this many columns.
 #[tactic(auto, using(crate::proofs::Counted::list_ends, crate::proofs::Counted::list_goes_on, crate::proofs::Counted::list_breaks))]
-fn skip_columns(bytes: &[u8], count: u16) -> Result<&[u8], ViewFault>
+fn skip_columns(bytes: &[u8], count: u16) -> Result<&[u8], ViewError>
     ensures { Shows (λ r. r.now) result (rest_of (list_at column_at count bytes.now)) }
 {
     let mut rest = bytes;
@@ -117,17 +117,17 @@ pub struct RowDescView<'a> {
 }
 
 impl<'a> RowDescView<'a> {
-    /// Reads the body of a RowDescription: a count and its columns. [`ViewFault::NoZero`]: a name
-    /// without its end. [`ViewFault::TooShort`]: fewer bytes than the count asks for.
-    /// [`ViewFault::LeftOver`]: bytes after the last.
+    /// Reads the body of a RowDescription: a count and its columns. [`ViewError::NoZero`]: a name
+    /// without its end. [`ViewError::TooShort`]: fewer bytes than the count asks for.
+    /// [`ViewError::LeftOver`]: bytes after the last.
     #[tactic(auto, using(crate::proofs::Counted::list_found, crate::proofs::Counted::list_there, crate::proofs::Counted::list_fault), unfolding(crate::specs::Reading::row_description_of))]
-    pub fn read(body: &'a [u8]) -> Result<RowDescView<'a>, ViewFault>
+    pub fn read(body: &'a [u8]) -> Result<RowDescView<'a>, ViewError>
         ensures parts { Shows (λ v. columns_left v.columns) result (row_description_of body.now) }
         ensures place { IfOk result (λ v. LiesAt v.columns.rest body.entry 2) }
     {
         let (left, rest) = take_u16(body)?;
         if !skip_columns(rest, left)?.is_empty() {
-            return Err(ViewFault::LeftOver);
+            return Err(ViewError::LeftOver);
         }
         let columns = Columns { rest, left };
         Ok(RowDescView { columns })

@@ -7,7 +7,7 @@ ghost use Rattle.message_view.specs.Reading.{ended_at, pair_at, rest_of, startup
 ghost use Rattle.message_view.specs.Views.{Shows, texts_of};
 
 use crate::parts::take_pair;
-use crate::{Pairs, ViewFault};
+use crate::{Pairs, ViewError};
 
 /// A client's StartupMessage.
 #[derive(Clone, Copy, Drop)]
@@ -43,7 +43,7 @@ impl<'a> Iterator for Pairs<'a> {
 
 /// What follows the zero byte that ends the pairs.
 #[tactic(auto, using(crate::proofs::Pairings::pair_shrinks, crate::proofs::Pairings::pairs_end, crate::proofs::Ended::list_goes_on, crate::proofs::Ended::list_breaks))]
-fn skip_pairs(bytes: &[u8]) -> Result<&[u8], ViewFault>
+fn skip_pairs(bytes: &[u8]) -> Result<&[u8], ViewError>
     ensures { Shows (λ r. r.now) result (rest_of (ended_at pair_at bytes.now)) }
 {
     let mut rest = bytes;
@@ -58,15 +58,15 @@ fn skip_pairs(bytes: &[u8]) -> Result<&[u8], ViewFault>
 
 impl<'a> StartupView<'a> {
     /// Reads what follows the code of a StartupMessage: pairs of texts, and the zero byte that ends
-    /// them. [`ViewFault::NoZero`]: a text without its end, or the pairs without theirs.
-    /// [`ViewFault::LeftOver`]: bytes after them.
+    /// them. [`ViewError::NoZero`]: a text without its end, or the pairs without theirs.
+    /// [`ViewError::LeftOver`]: bytes after them.
     #[tactic(auto, using(crate::proofs::Ended::ended_found, crate::proofs::Ended::ended_there, crate::proofs::Ended::ended_broken), unfolding(crate::specs::Reading::startup_of))]
-    pub fn read(body: &'a [u8]) -> Result<StartupView<'a>, ViewFault>
+    pub fn read(body: &'a [u8]) -> Result<StartupView<'a>, ViewError>
         ensures parts { Shows (λ v. pairs_left v.pairs) result (startup_of body.now) }
         ensures place { IfOk result (λ v. LiesAt v.pairs.rest body.entry 0) }
     {
         if !skip_pairs(body)?.is_empty() {
-            return Err(ViewFault::LeftOver);
+            return Err(ViewError::LeftOver);
         }
         let pairs = Pairs { rest: body };
         Ok(StartupView { pairs })

@@ -10,7 +10,7 @@ ghost use Rattle.message_view.specs.Reading.{counted_at, int16_at, list_at, rest
 ghost use Rattle.message_view.specs.Views.{Gives, LiesIfAny, Shows, value_place};
 
 use crate::parts::{take_u16, take_value};
-use crate::{Values, ViewFault};
+use crate::{Values, ViewError};
 
 impl<'a> Iterator for Values<'a> {
     ghost use Rattle.std.specs.Iterator.{YieldsFirstBy, item_count};
@@ -40,7 +40,7 @@ impl<'a> Iterator for Values<'a> {
 
 /// What follows this many values.
 #[tactic(auto, using(crate::proofs::Counted::list_ends, crate::proofs::Counted::list_goes_on, crate::proofs::Counted::list_breaks))]
-fn skip_values(bytes: &[u8], count: u16) -> Result<&[u8], ViewFault>
+fn skip_values(bytes: &[u8], count: u16) -> Result<&[u8], ViewError>
     ensures { Shows (λ r. r.now) result (rest_of (list_at value_at count bytes.now)) }
 {
     let mut rest = bytes;
@@ -52,7 +52,7 @@ fn skip_values(bytes: &[u8], count: u16) -> Result<&[u8], ViewFault>
 
 /// A count and as many values.
 #[tactic(auto, using(crate::proofs::Counted::list_found, crate::proofs::Counted::list_there, crate::proofs::Counted::list_fault))]
-pub(crate) fn take_values(bytes: &[u8]) -> Result<(Values<'_>, &[u8]), ViewFault>
+pub(crate) fn take_values(bytes: &[u8]) -> Result<(Values<'_>, &[u8]), ViewError>
     ensures part { Gives values_left result (counted_at value_at bytes.now) }
     ensures place { IfOk result (λ x. LiesAt x.0.rest bytes.entry 2) }
 {

@@ -7,7 +7,7 @@ ghost use Rattle.message_view.specs.Views.{Shows};
 
 use crate::kinds::{FAILED, IDLE, IN_TRANSACTION, PORTAL, STATEMENT};
 use crate::parts::{take_text, take_u32};
-use crate::{Status, ViewFault};
+use crate::{Status, ViewError};
 
 /// A client's PasswordMessage.
 #[derive(Clone, Copy, Drop)]
@@ -81,22 +81,22 @@ pub struct TagView<'a> {
 }
 
 /// The one text that the bytes are.
-fn text_alone(bytes: &[u8]) -> Result<&[u8], ViewFault>
+fn text_alone(bytes: &[u8]) -> Result<&[u8], ViewError>
     ensures part { Shows (λ t. t.now) result (alone (text_at bytes.now)) }
     ensures place { IfOk result (λ t. LiesAt t bytes.entry 0) }
 {
     let (text, rest) = take_text(bytes)?;
     if !rest.is_empty() {
-        return Err(ViewFault::LeftOver);
+        return Err(ViewError::LeftOver);
     }
     Ok(text)
 }
 
 impl<'a> PasswordView<'a> {
-    /// Reads the body of a PasswordMessage: one text. [`ViewFault::NoZero`]: it has no
-    /// end. [`ViewFault::LeftOver`]: bytes after it.
+    /// Reads the body of a PasswordMessage: one text. [`ViewError::NoZero`]: it has no
+    /// end. [`ViewError::LeftOver`]: bytes after it.
     #[tactic(auto, unfolding(crate::specs::Reading::password_of))]
-    pub fn read(body: &'a [u8]) -> Result<PasswordView<'a>, ViewFault>
+    pub fn read(body: &'a [u8]) -> Result<PasswordView<'a>, ViewError>
         ensures parts { Shows (λ v. v.password.now) result (password_of body.now) }
         ensures place { IfOk result (λ v. LiesAt v.password body.entry 0) }
     {
@@ -106,10 +106,10 @@ impl<'a> PasswordView<'a> {
 }
 
 impl<'a> QueryView<'a> {
-    /// Reads the body of a Query: one text. [`ViewFault::NoZero`]: it has no
-    /// end. [`ViewFault::LeftOver`]: bytes after it.
+    /// Reads the body of a Query: one text. [`ViewError::NoZero`]: it has no
+    /// end. [`ViewError::LeftOver`]: bytes after it.
     #[tactic(auto, unfolding(crate::specs::Reading::query_of))]
-    pub fn read(body: &'a [u8]) -> Result<QueryView<'a>, ViewFault>
+    pub fn read(body: &'a [u8]) -> Result<QueryView<'a>, ViewError>
         ensures parts { Shows (λ v. v.text.now) result (query_of body.now) }
         ensures place { IfOk result (λ v. LiesAt v.text body.entry 0) }
     {
@@ -119,22 +119,22 @@ impl<'a> QueryView<'a> {
 }
 
 #[tactic(auto, unfolding(crate::specs::Reading::target_of))]
-fn read_target(body: &[u8]) -> Result<Target<'_>, ViewFault>
+fn read_target(body: &[u8]) -> Result<Target<'_>, ViewError>
     ensures parts { Shows shown_target result (target_of body.now) }
     ensures place { IfOk result (λ t. TargetLiesAt t body.entry 1) }
 {
     match body {
         [STATEMENT, name @ ..] => Ok(Target::Statement(text_alone(name)?)),
         [PORTAL, name @ ..] => Ok(Target::Portal(text_alone(name)?)),
-        _ => Err(ViewFault::TooShort),
+        _ => Err(ViewError::TooShort),
     }
 }
 
 impl<'a> DescribeView<'a> {
-    /// Reads the body of a Describe: `S` or `P`, and a name. [`ViewFault::TooShort`]:
-    /// another letter or none. [`ViewFault::NoZero`]: the name has no end. [`ViewFault::LeftOver`]: bytes
+    /// Reads the body of a Describe: `S` or `P`, and a name. [`ViewError::TooShort`]:
+    /// another letter or none. [`ViewError::NoZero`]: the name has no end. [`ViewError::LeftOver`]: bytes
     /// after it.
-    pub fn read(body: &'a [u8]) -> Result<DescribeView<'a>, ViewFault>
+    pub fn read(body: &'a [u8]) -> Result<DescribeView<'a>, ViewError>
         ensures parts { Shows (λ v. shown_target v.target) result (target_of body.now) }
         ensures place { IfOk result (λ v. TargetLiesAt v.target body.entry 1) }
     {
@@ -144,10 +144,10 @@ impl<'a> DescribeView<'a> {
 }
 
 impl<'a> CloseView<'a> {
-    /// Reads the body of a Close: `S` or `P`, and a name. [`ViewFault::TooShort`]:
-    /// another letter or none. [`ViewFault::NoZero`]: the name has no end. [`ViewFault::LeftOver`]: bytes
+    /// Reads the body of a Close: `S` or `P`, and a name. [`ViewError::TooShort`]:
+    /// another letter or none. [`ViewError::NoZero`]: the name has no end. [`ViewError::LeftOver`]: bytes
     /// after it.
-    pub fn read(body: &'a [u8]) -> Result<CloseView<'a>, ViewFault>
+    pub fn read(body: &'a [u8]) -> Result<CloseView<'a>, ViewError>
         ensures parts { Shows (λ v. shown_target v.target) result (target_of body.now) }
         ensures place { IfOk result (λ v. TargetLiesAt v.target body.entry 1) }
     {
@@ -157,17 +157,17 @@ impl<'a> CloseView<'a> {
 }
 
 impl<'a> ExecuteView<'a> {
-    /// Reads the body of an Execute: the portal's name and the row limit. [`ViewFault::NoZero`]: the
-    /// name has no end. [`ViewFault::TooShort`]: fewer than four bytes are left. [`ViewFault::LeftOver`]: more.
+    /// Reads the body of an Execute: the portal's name and the row limit. [`ViewError::NoZero`]: the
+    /// name has no end. [`ViewError::TooShort`]: fewer than four bytes are left. [`ViewError::LeftOver`]: more.
     #[tactic(auto, using(crate::proofs::Ints::signed_back), unfolding(crate::specs::Reading::execute_of))]
-    pub fn read(body: &'a [u8]) -> Result<ExecuteView<'a>, ViewFault>
+    pub fn read(body: &'a [u8]) -> Result<ExecuteView<'a>, ViewError>
         ensures parts { Shows shown_execute result (execute_of body.now) }
         ensures place { IfOk result (λ v. LiesAt v.portal body.entry 0) }
     {
         let (portal, rest) = take_text(body)?;
         let (limit, rest) = take_u32(rest)?;
         if !rest.is_empty() {
-            return Err(ViewFault::LeftOver);
+            return Err(ViewError::LeftOver);
         }
         Ok(ExecuteView {
             portal,
@@ -178,9 +178,9 @@ impl<'a> ExecuteView<'a> {
 
 impl<'a> AuthView<'a> {
     /// Reads the body of an authentication message: its number, and the rest as it is.
-    /// [`ViewFault::TooShort`]: fewer than four bytes.
+    /// [`ViewError::TooShort`]: fewer than four bytes.
     #[tactic(auto, unfolding(crate::specs::Reading::authentication_of))]
-    pub fn read(body: &'a [u8]) -> Result<AuthView<'a>, ViewFault>
+    pub fn read(body: &'a [u8]) -> Result<AuthView<'a>, ViewError>
         ensures parts { Shows (λ v. (v.kind, v.rest.now)) result (authentication_of body.now) }
         ensures place { IfOk result (λ v. LiesAt v.rest body.entry 4) }
     {
@@ -190,26 +190,26 @@ impl<'a> AuthView<'a> {
 }
 
 impl KeyView {
-    /// Reads the body of a BackendKeyData: two numbers. [`ViewFault::TooShort`]: fewer than eight bytes.
-    /// [`ViewFault::LeftOver`]: more.
+    /// Reads the body of a BackendKeyData: two numbers. [`ViewError::TooShort`]: fewer than eight bytes.
+    /// [`ViewError::LeftOver`]: more.
     #[tactic(auto, unfolding(crate::specs::Reading::key_of))]
-    pub fn read(body: &[u8]) -> Result<KeyView, ViewFault>
+    pub fn read(body: &[u8]) -> Result<KeyView, ViewError>
         ensures { Shows (λ v. (v.pid, v.secret)) result (key_of body.now) }
     {
         let (pid, rest) = take_u32(body)?;
         let (secret, rest) = take_u32(rest)?;
         if !rest.is_empty() {
-            return Err(ViewFault::LeftOver);
+            return Err(ViewError::LeftOver);
         }
         Ok(KeyView { pid, secret })
     }
 }
 
 impl<'a> StatusView<'a> {
-    /// Reads the body of a ParameterStatus: a name and its value. [`ViewFault::NoZero`]: one of
-    /// them has no end. [`ViewFault::LeftOver`]: bytes after them.
+    /// Reads the body of a ParameterStatus: a name and its value. [`ViewError::NoZero`]: one of
+    /// them has no end. [`ViewError::LeftOver`]: bytes after them.
     #[tactic(auto, unfolding(crate::specs::Reading::status_of))]
-    pub fn read(body: &'a [u8]) -> Result<StatusView<'a>, ViewFault>
+    pub fn read(body: &'a [u8]) -> Result<StatusView<'a>, ViewError>
         ensures parts { Shows (λ v. (v.name.now, v.setting.now)) result (status_of body.now) }
         ensures name { IfOk result (λ v. LiesAt v.name body.entry 0) }
         ensures setting { IfOk result (λ v. LiesAt v.setting body.entry (1 + length v.name.now)) }
@@ -217,37 +217,37 @@ impl<'a> StatusView<'a> {
         let (name, rest) = take_text(body)?;
         let (setting, rest) = take_text(rest)?;
         if !rest.is_empty() {
-            return Err(ViewFault::LeftOver);
+            return Err(ViewError::LeftOver);
         }
         Ok(StatusView { name, setting })
     }
 }
 
 impl ReadyView {
-    /// Reads the body of a ReadyForQuery: `I`, `T` or `E`. [`ViewFault::TooShort`]: another
-    /// letter or none. [`ViewFault::LeftOver`]: bytes after it.
+    /// Reads the body of a ReadyForQuery: `I`, `T` or `E`. [`ViewError::TooShort`]: another
+    /// letter or none. [`ViewError::LeftOver`]: bytes after it.
     #[tactic(auto, unfolding(crate::specs::Reading::ready_of))]
-    pub fn read(body: &[u8]) -> Result<ReadyView, ViewFault>
+    pub fn read(body: &[u8]) -> Result<ReadyView, ViewError>
         ensures { Shows (λ v. v.status) result (ready_of body.now) }
     {
         let (status, rest) = match body {
             [IDLE, rest @ ..] => (Status::Idle, rest),
             [IN_TRANSACTION, rest @ ..] => (Status::InTransaction, rest),
             [FAILED, rest @ ..] => (Status::Failed, rest),
-            _ => return Err(ViewFault::TooShort),
+            _ => return Err(ViewError::TooShort),
         };
         if !rest.is_empty() {
-            return Err(ViewFault::LeftOver);
+            return Err(ViewError::LeftOver);
         }
         Ok(ReadyView { status })
     }
 }
 
 impl<'a> TagView<'a> {
-    /// Reads the body of a CommandComplete: one text. [`ViewFault::NoZero`]: it has no
-    /// end. [`ViewFault::LeftOver`]: bytes after it.
+    /// Reads the body of a CommandComplete: one text. [`ViewError::NoZero`]: it has no
+    /// end. [`ViewError::LeftOver`]: bytes after it.
     #[tactic(auto, unfolding(crate::specs::Reading::tag_of))]
-    pub fn read(body: &'a [u8]) -> Result<TagView<'a>, ViewFault>
+    pub fn read(body: &'a [u8]) -> Result<TagView<'a>, ViewError>
         ensures parts { Shows (λ v. v.tag.now) result (tag_of body.now) }
         ensures place { IfOk result (λ v. LiesAt v.tag body.entry 0) }
     {

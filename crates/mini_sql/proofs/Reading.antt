@@ -4,7 +4,7 @@ use Rattle.std.specs.Prelude.{if◌then◌else◌, ◌||◌, IsErr, is_some, cod
 use Rattle.std.specs.Borrow.{Bor}
 use Rattle.std.specs.Iterator.{MakesProgress, item_count}
 use Rattle.std.proofs.Common.{subst}
-use Rattle.mini_sql.specs.declared.SqlFault.{SqlFault}
+use Rattle.mini_sql.specs.declared.SqlError.{SqlError}
 use Rattle.mini_sql.specs.Words.{Text}
 use Rattle.mini_sql.specs.Tokens.{Token, Sign, after_token, comma}
 use Rattle.mini_sql.specs.Statements.{phrase, read, is_sign, is_word, items, definitions, columns_at, with_item, column_of}
@@ -12,15 +12,15 @@ use Rattle.mini_sql.specs.Reading.{has_token, passed, taken, with_value, with_to
 use Rattle.mini_sql.specs.Lists.{Listing, items_of, more, IsItem, GoesOn, listing_from}
 
 -- an answer that is a fault
-pub follows-err : (r : Result (Bor Text) SqlFault) (o : Option (List Token)) → IsErr r → o ≡ None → Follows r o
+pub follows-err : (r : Result (Bor Text) SqlError) (o : Option (List Token)) → IsErr r → o ≡ None → Follows r o
 follows-err (Ok x) o e n = absurd (cc)
 follows-err (Err x) o e n = n
 
-pub takes-err : {C A : Type 0} (view : C → A) (r : Result (C × Bor Text) SqlFault) (o : Option (A × List Token)) → IsErr r → o ≡ None → Takes view r o
+pub takes-err : {C A : Type 0} (view : C → A) (r : Result (C × Bor Text) SqlError) (o : Option (A × List Token)) → IsErr r → o ≡ None → Takes view r o
 takes-err view (Ok x) o e n = absurd (cc)
 takes-err view (Err x) o e n = n
 
-pub item-err : {C A : Type 0} (view : C → A) (list : List Token → Listing A) (r : Result (C × Bor Text) SqlFault) (o : Option (List Token)) → IsErr r → read list o ≡ None → IsItem view list r o
+pub item-err : {C A : Type 0} (view : C → A) (list : List Token → Listing A) (r : Result (C × Bor Text) SqlError) (o : Option (List Token)) → IsErr r → read list o ≡ None → IsItem view list r o
 item-err view list (Ok x) o e n = absurd (cc)
 item-err view list (Err x) o e n = n
 
@@ -245,7 +245,7 @@ pub next-items : {A : Type 0} (list : List Token → Listing A) (a : A) (next : 
 next-items list a next whole o s e g =
     ap items_of e ∙ (some-item a (more list o) (ap is_some (sym e) ∙ s)).1 ∙ ap (λ xs. a ∷ xs) (goes-items list next o g)
 
-pub sign-err : (r : Result (Bor Text) SqlFault) (o : Option (List Token)) (s : ℕ) → IsErr r → passed (is_sign s) o ≡ None → MatchResult r (λ rest. o ≡ after_token (Sign s) (phrase rest.now)) (λ e. passed (is_sign s) o ≡ None)
+pub sign-err : (r : Result (Bor Text) SqlError) (o : Option (List Token)) (s : ℕ) → IsErr r → passed (is_sign s) o ≡ None → MatchResult r (λ rest. o ≡ after_token (Sign s) (phrase rest.now)) (λ e. passed (is_sign s) o ≡ None)
 sign-err (Ok x) o s e n = absurd (cc)
 sign-err (Err x) o s e n = n
 

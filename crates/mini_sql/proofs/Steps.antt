@@ -2,7 +2,7 @@
 use Rattle.std.proofs.Common.{◌≡◌, ℕ, List, [], ◌∷◌, length, Option, Some, None, Result, Ok, Err, refl, sym, ap, ◌∙◌, Bool, true, false, eq-eqb, subst}
 use Rattle.std.specs.Prelude.{if◌then◌else◌, nat_le, IsErr, is_some}
 use Rattle.std.specs.Borrow.{Bor}
-use Rattle.mini_sql.specs.declared.SqlFault.{SqlFault}
+use Rattle.mini_sql.specs.declared.SqlError.{SqlError}
 use Rattle.mini_sql.specs.declared.stmt.Stmt.{Stmt}
 use Rattle.mini_sql.specs.declared.stmt.Filter.{Filter}
 use Rattle.mini_sql.specs.Words.{Text}
@@ -13,19 +13,19 @@ use Rattle.mini_sql.specs.Lists.{Listing, items_of, rest_of}
 use Rattle.mini_sql.specs.Meanings.{Reads, IsFilter, IsSource}
 
 -- an answer that is a fault
-pub reads-err : (r : Result Stmt SqlFault) (o : Option Statement) → IsErr r → o ≡ None → Reads r o
+pub reads-err : (r : Result Stmt SqlError) (o : Option Statement) → IsErr r → o ≡ None → Reads r o
 reads-err (Ok x) o e n = absurd (cc)
 reads-err (Err x) o e n = n
 
-pub filter-err : (r : Result (Option Filter) SqlFault) (o : Option (List Token)) → IsErr r → ((cs : List Text) (t : Text) → read (end_of cs t) o ≡ None) → IsFilter r o
+pub filter-err : (r : Result (Option Filter) SqlError) (o : Option (List Token)) → IsErr r → ((cs : List Text) (t : Text) → read (end_of cs t) o ≡ None) → IsFilter r o
 filter-err (Ok x) o e n = absurd (cc)
 filter-err (Err x) o e n = n
 
-pub source-err : (r : Result (Bor Text × Option Filter) SqlFault) (o : Option (List Token)) → IsErr r → ((cs : List Text) → read (from_of cs) o ≡ None) → IsSource r o
+pub source-err : (r : Result (Bor Text × Option Filter) SqlError) (o : Option (List Token)) → IsErr r → ((cs : List Text) → read (from_of cs) o ≡ None) → IsSource r o
 source-err (Ok x) o e n = absurd (cc)
 source-err (Err x) o e n = n
 
-pub reads-to : (r : Result Stmt SqlFault) (o p : Option Statement) → o ≡ p → Reads r p → Reads r o
+pub reads-to : (r : Result Stmt SqlError) (o p : Option Statement) → o ≡ p → Reads r p → Reads r o
 reads-to r o p e h = subst (Reads r) (sym e) h
 
 -- one step of a form

@@ -4,7 +4,7 @@ use Rattle.std.specs.Borrow.{Bor}
 use Rattle.mini_sql.specs.Words.{Text}
 use Rattle.mini_sql.specs.Tokens as spec
 use Rattle.mini_sql.specs.Tokens.{token_at, after_token, tokens, unquoted}
-use Rattle.mini_sql.specs.declared.SqlFault.{SqlFault}
+use Rattle.mini_sql.specs.declared.SqlError.{SqlError}
 use Rattle.mini_sql.specs.declared.token.Token.{Token}
 use Rattle.mini_sql.specs.declared.token.Token.TheVariants.{Name, Literal, Digits, Parameter, Sign}
 
@@ -25,7 +25,7 @@ IsFront None text = front text ≡ None
 IsFront (Some p) text = (front text ≡ Some (token_of p.0, p.1)) × (1 ≤ p.1) × (p.1 ≤ length text)
 
 -- the first of these tokens and what follows it, or that there is none, or that the text is no list of tokens
-abbrev pub IsFirst : (Text → Option (List spec.Token)) → Result (Option (Token × Bor Text)) SqlFault → Option (List spec.Token) → Type 0
+abbrev pub IsFirst : (Text → Option (List spec.Token)) → Result (Option (Token × Bor Text)) SqlError → Option (List spec.Token) → Type 0
 IsFirst list (Ok None) read = read ≡ Some []
 IsFirst list (Ok (Some p)) read = read ≡ after_token (token_of p.0) (list p.1.now)
 IsFirst list (Err e) read = read ≡ None

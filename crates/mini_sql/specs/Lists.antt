@@ -5,7 +5,7 @@ use Rattle.mini_sql.specs.Words.{Text}
 use Rattle.mini_sql.specs.Tokens.{Token, Sign, after_token, comma}
 use Rattle.mini_sql.specs.Statements.{phrase, read, items, columns_at, operand_of, Operand, is_sign, with_item}
 use Rattle.mini_sql.specs.Reading.{passed}
-use Rattle.mini_sql.specs.declared.SqlFault.{SqlFault}
+use Rattle.mini_sql.specs.declared.SqlError.{SqlError}
 
 -- a list of items before the tokens after it
 abbrev pub Listing : Type 0 → Type 0
@@ -41,6 +41,6 @@ more list (Some []) = Some ([], [])
 more list (Some (t ∷ ts)) = if is_sign comma t then list ts else Some ([], t ∷ ts)
 
 -- the first item is this, and what follows it goes on with the list
-abbrev pub IsItem : {C A : Type 0} → (C → A) → (List Token → Listing A) → Result (C × Bor Text) SqlFault → Option (List Token) → Type 0
+abbrev pub IsItem : {C A : Type 0} → (C → A) → (List Token → Listing A) → Result (C × Bor Text) SqlError → Option (List Token) → Type 0
 IsItem view list result tokens =
     MatchResult result (λ p. read list tokens ≡ with_item (Some (view p.0)) (more list (phrase p.1.now))) (λ e. read list tokens ≡ None)

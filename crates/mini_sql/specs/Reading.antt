@@ -4,7 +4,7 @@ use Rattle.std.specs.Borrow.{Bor}
 use Rattle.mini_sql.specs.Words.{Text}
 use Rattle.mini_sql.specs.Tokens.{Token}
 use Rattle.mini_sql.specs.Statements.{phrase}
-use Rattle.mini_sql.specs.declared.SqlFault.{SqlFault}
+use Rattle.mini_sql.specs.declared.SqlError.{SqlError}
 
 -- there is a token
 abbrev pub has_token : Option (List Token) → Bool
@@ -35,9 +35,9 @@ taken value_of (Some (t ∷ ts)) = with_tokens (value_of t) ts
 taken value_of _ = None
 
 -- the rest of the text has these tokens
-abbrev pub Follows : Result (Bor Text) SqlFault → Option (List Token) → Type 0
+abbrev pub Follows : Result (Bor Text) SqlError → Option (List Token) → Type 0
 Follows result tokens = MatchResult result (λ rest. tokens ≡ phrase rest.now) (λ e. tokens ≡ None)
 
 -- the value is this, and the rest of the text has these tokens
-abbrev pub Takes : {C A : Type 0} → (C → A) → Result (C × Bor Text) SqlFault → Option (A × List Token) → Type 0
+abbrev pub Takes : {C A : Type 0} → (C → A) → Result (C × Bor Text) SqlError → Option (A × List Token) → Type 0
 Takes view result read = MatchResult result (λ p. read ≡ with_value (view p.0) (phrase p.1.now)) (λ e. read ≡ None)

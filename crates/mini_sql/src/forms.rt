@@ -6,7 +6,7 @@ ghost use Rattle.mini_sql.specs.Statements as spec;
 ghost use Rattle.mini_sql.specs.Statements.{phrase, read};
 ghost use Rattle.mini_sql.specs.Meanings.{IsFilter, IsSource, Reads, meaning};
 
-use crate::SqlFault;
+use crate::SqlError;
 use crate::lists::{Columns, Operands, after_columns, after_operands};
 use crate::parts::{
     expect_assignment, expect_either, expect_sign, expect_word, is_end, take_count, take_name,
@@ -15,18 +15,18 @@ use crate::parts::{
 use crate::stmt::{Filter, Stmt};
 
 /// The statement, at the end of its text.
-fn finish<'a>(text: &[u8], stmt: Stmt<'a>) -> Result<Stmt<'a>, SqlFault>
+fn finish<'a>(text: &[u8], stmt: Stmt<'a>) -> Result<Stmt<'a>, SqlError>
     ensures { Reads result (read (spec.ends (meaning stmt.entry)) (phrase text.now)) }
 {
     if is_end(text) {
         Ok(stmt)
     } else {
-        Err(SqlFault::Syntax)
+        Err(SqlError::Syntax)
     }
 }
 
 /// BEGIN, COMMIT or ROLLBACK, after that word.
-pub(crate) fn block<'a>(text: &'a [u8], stmt: Stmt<'a>) -> Result<Stmt<'a>, SqlFault>
+pub(crate) fn block<'a>(text: &'a [u8], stmt: Stmt<'a>) -> Result<Stmt<'a>, SqlError>
     ensures { Reads result (read (spec.block (meaning stmt.entry)) (phrase text.now)) }
 {
     if is_end(text) {
@@ -37,7 +37,7 @@ pub(crate) fn block<'a>(text: &'a [u8], stmt: Stmt<'a>) -> Result<Stmt<'a>, SqlF
 }
 
 /// `name TO v` or `name = v`.
-fn assignment(text: &[u8]) -> Result<Stmt<'_>, SqlFault>
+fn assignment(text: &[u8]) -> Result<Stmt<'_>, SqlError>
     ensures { Reads result (read (spec.assignment spec.Set) (phrase text.now)) }
 {
     let (name, after_name) = take_name(text)?;
@@ -47,7 +47,7 @@ fn assignment(text: &[u8]) -> Result<Stmt<'_>, SqlFault>
 }
 
 /// `name TO v` after the word SESSION.
-fn session_assignment(text: &[u8]) -> Result<Stmt<'_>, SqlFault>
+fn session_assignment(text: &[u8]) -> Result<Stmt<'_>, SqlError>
     ensures { Reads result (read (spec.pass (spec.is_word (codes "session")) (spec.assignment spec.Set)) (phrase text.now)) }
 {
     let rest = expect_word(text, b"session")?;
@@ -55,7 +55,7 @@ fn session_assignment(text: &[u8]) -> Result<Stmt<'_>, SqlFault>
 }
 
 /// `name TO v` after the word LOCAL.
-fn local_assignment(text: &[u8]) -> Result<Stmt<'_>, SqlFault>
+fn local_assignment(text: &[u8]) -> Result<Stmt<'_>, SqlError>
     ensures { Reads result (read (spec.pass (spec.is_word (codes "local")) (spec.assignment spec.SetLocal)) (phrase text.now)) }
 {
     let after_word = expect_word(text, b"local")?;
@@ -66,7 +66,7 @@ fn local_assignment(text: &[u8]) -> Result<Stmt<'_>, SqlFault>
 }
 
 /// SET of a parameter, with LOCAL before its name or not.
-fn set_name(text: &[u8]) -> Result<Stmt<'_>, SqlFault>
+fn set_name(text: &[u8]) -> Result<Stmt<'_>, SqlError>
     ensures { Reads result (read spec.set_name (phrase text.now)) }
 {
     match local_assignment(text) {
@@ -76,7 +76,7 @@ fn set_name(text: &[u8]) -> Result<Stmt<'_>, SqlFault>
 }
 
 /// SET, after that word.
-pub(crate) fn set(text: &[u8]) -> Result<Stmt<'_>, SqlFault>
+pub(crate) fn set(text: &[u8]) -> Result<Stmt<'_>, SqlError>
     ensures { Reads result (read spec.set (phrase text.now)) }
 {
     match session_assignment(text) {
@@ -86,7 +86,7 @@ pub(crate) fn set(text: &[u8]) -> Result<Stmt<'_>, SqlFault>
 }
 
 /// ALL alone.
-fn all<'a>(text: &[u8], stmt: Stmt<'a>) -> Result<Stmt<'a>, SqlFault>
+fn all<'a>(text: &[u8], stmt: Stmt<'a>) -> Result<Stmt<'a>, SqlError>
     ensures { Reads result (read (spec.pass (spec.is_word (codes "all")) (spec.ends (meaning stmt.entry))) (phrase text.now)) }
 {
     let rest = expect_word(text, b"all")?;
@@ -94,7 +94,7 @@ fn all<'a>(text: &[u8], stmt: Stmt<'a>) -> Result<Stmt<'a>, SqlFault>
 }
 
 /// The name of RESET.
-fn reset_name(text: &[u8]) -> Result<Stmt<'_>, SqlFault>
+fn reset_name(text: &[u8]) -> Result<Stmt<'_>, SqlError>
     ensures { Reads result (read (spec.take_value spec.name_of (λ n. spec.ends (spec.Reset n))) (phrase text.now)) }
 {
     let (name, rest) = take_name(text)?;
@@ -102,7 +102,7 @@ fn reset_name(text: &[u8]) -> Result<Stmt<'_>, SqlFault>
 }
 
 /// RESET, after that word.
-pub(crate) fn reset(text: &[u8]) -> Result<Stmt<'_>, SqlFault>
+pub(crate) fn reset(text: &[u8]) -> Result<Stmt<'_>, SqlError>
     ensures { Reads result (read spec.reset (phrase text.now)) }
 {
     match all(text, Stmt::ResetAll) {
@@ -112,7 +112,7 @@ pub(crate) fn reset(text: &[u8]) -> Result<Stmt<'_>, SqlFault>
 }
 
 /// SHOW, after that word.
-pub(crate) fn show(text: &[u8]) -> Result<Stmt<'_>, SqlFault>
+pub(crate) fn show(text: &[u8]) -> Result<Stmt<'_>, SqlError>
     ensures { Reads result (read spec.show (phrase text.now)) }
 {
     let (name, rest) = take_name(text)?;
@@ -120,21 +120,21 @@ pub(crate) fn show(text: &[u8]) -> Result<Stmt<'_>, SqlFault>
 }
 
 /// DISCARD, after that word.
-pub(crate) fn discard(text: &[u8]) -> Result<Stmt<'_>, SqlFault>
+pub(crate) fn discard(text: &[u8]) -> Result<Stmt<'_>, SqlError>
     ensures { Reads result (read spec.discard (phrase text.now)) }
 {
     all(text, Stmt::DiscardAll)
 }
 
 /// `(c text, ..)` of a new table.
-fn definitions<'a>(text: &'a [u8], table: &'a [u8]) -> Result<Stmt<'a>, SqlFault>
+fn definitions<'a>(text: &'a [u8], table: &'a [u8]) -> Result<Stmt<'a>, SqlError>
     ensures { Reads result (read (spec.definition_list (folded table.now)) (phrase text.now)) }
 {
     let list = expect_sign(text, b'(')?;
     let after = after_columns(true, list)?;
     let rest = expect_sign(after, b')')?;
     if !is_end(rest) {
-        return Err(SqlFault::Syntax);
+        return Err(SqlError::Syntax);
     }
     Ok(Stmt::Create {
         table,
@@ -143,7 +143,7 @@ fn definitions<'a>(text: &'a [u8], table: &'a [u8]) -> Result<Stmt<'a>, SqlFault
 }
 
 /// CREATE, after that word.
-pub(crate) fn create(text: &[u8]) -> Result<Stmt<'_>, SqlFault>
+pub(crate) fn create(text: &[u8]) -> Result<Stmt<'_>, SqlError>
     ensures { Reads result (read spec.create (phrase text.now)) }
 {
     let after_temporary = expect_either(text, b"temp", b"temporary")?;
@@ -153,7 +153,7 @@ pub(crate) fn create(text: &[u8]) -> Result<Stmt<'_>, SqlFault>
 }
 
 /// DROP, after that word.
-pub(crate) fn drop_table(text: &[u8]) -> Result<Stmt<'_>, SqlFault>
+pub(crate) fn drop_table(text: &[u8]) -> Result<Stmt<'_>, SqlError>
     ensures { Reads result (read spec.drop_table (phrase text.now)) }
 {
     let after_word = expect_word(text, b"table")?;
@@ -162,14 +162,14 @@ pub(crate) fn drop_table(text: &[u8]) -> Result<Stmt<'_>, SqlFault>
 }
 
 /// `(v, ..)` of a row.
-fn values<'a>(text: &'a [u8], table: &'a [u8]) -> Result<Stmt<'a>, SqlFault>
+fn values<'a>(text: &'a [u8], table: &'a [u8]) -> Result<Stmt<'a>, SqlError>
     ensures { Reads result (read (spec.value_list (folded table.now)) (phrase text.now)) }
 {
     let list = expect_sign(text, b'(')?;
     let after = after_operands(list)?;
     let rest = expect_sign(after, b')')?;
     if !is_end(rest) {
-        return Err(SqlFault::Syntax);
+        return Err(SqlError::Syntax);
     }
     Ok(Stmt::Insert {
         table,
@@ -178,7 +178,7 @@ fn values<'a>(text: &'a [u8], table: &'a [u8]) -> Result<Stmt<'a>, SqlFault>
 }
 
 /// INSERT, after that word.
-pub(crate) fn insert(text: &[u8]) -> Result<Stmt<'_>, SqlFault>
+pub(crate) fn insert(text: &[u8]) -> Result<Stmt<'_>, SqlError>
     ensures { Reads result (read spec.insert (phrase text.now)) }
 {
     let after_into = expect_word(text, b"into")?;
@@ -188,7 +188,7 @@ pub(crate) fn insert(text: &[u8]) -> Result<Stmt<'_>, SqlFault>
 }
 
 /// `WHERE c = v`, or nothing.
-fn filter(text: &[u8]) -> Result<Option<Filter<'_>>, SqlFault>
+fn filter(text: &[u8]) -> Result<Option<Filter<'_>>, SqlError>
     ensures { IsFilter result (phrase text.now) }
 {
     if is_end(text) {
@@ -199,13 +199,13 @@ fn filter(text: &[u8]) -> Result<Option<Filter<'_>>, SqlFault>
     let after_sign = expect_sign(after_column, b'=')?;
     let (value, after_value) = take_operand(after_sign)?;
     if !is_end(after_value) {
-        return Err(SqlFault::Syntax);
+        return Err(SqlError::Syntax);
     }
     Ok(Some(Filter { column, value }))
 }
 
 /// `FROM t` with its filter.
-fn source(text: &[u8]) -> Result<(&[u8], Option<Filter<'_>>), SqlFault>
+fn source(text: &[u8]) -> Result<(&[u8], Option<Filter<'_>>), SqlError>
     ensures { IsSource result (phrase text.now) }
 {
     let after_word = expect_word(text, b"from")?;
@@ -215,7 +215,7 @@ fn source(text: &[u8]) -> Result<(&[u8], Option<Filter<'_>>), SqlFault>
 }
 
 /// SELECT of all columns, after that word.
-fn select_all(text: &[u8]) -> Result<Stmt<'_>, SqlFault>
+fn select_all(text: &[u8]) -> Result<Stmt<'_>, SqlError>
     ensures { Reads result (read (spec.pass (spec.is_sign star) (spec.from_of [])) (phrase text.now)) }
 {
     let after_star = expect_sign(text, b'*')?;
@@ -228,7 +228,7 @@ fn select_all(text: &[u8]) -> Result<Stmt<'_>, SqlFault>
 }
 
 /// SELECT of columns by name, after that word.
-fn select_columns(text: &[u8]) -> Result<Stmt<'_>, SqlFault>
+fn select_columns(text: &[u8]) -> Result<Stmt<'_>, SqlError>
     ensures { Reads result (read (spec.take_columns false spec.from_of) (phrase text.now)) }
 {
     let after = after_columns(false, text)?;
@@ -241,7 +241,7 @@ fn select_columns(text: &[u8]) -> Result<Stmt<'_>, SqlFault>
 }
 
 /// SELECT, after that word.
-pub(crate) fn select(text: &[u8]) -> Result<Stmt<'_>, SqlFault>
+pub(crate) fn select(text: &[u8]) -> Result<Stmt<'_>, SqlError>
     ensures { Reads result (read spec.select (phrase text.now)) }
 {
     match select_all(text) {
@@ -251,11 +251,11 @@ pub(crate) fn select(text: &[u8]) -> Result<Stmt<'_>, SqlFault>
 }
 
 /// A cursor over what a SELECT without parameters gives.
-fn declared_over<'a>(cursor: &'a [u8], select: Stmt<'a>) -> Result<Stmt<'a>, SqlFault>
+fn declared_over<'a>(cursor: &'a [u8], select: Stmt<'a>) -> Result<Stmt<'a>, SqlError>
     ensures { Reads result (spec.declared_over (folded cursor.now) (Some (meaning select.entry))) }
 {
     if select.parameters() != 0 {
-        return Err(SqlFault::Syntax);
+        return Err(SqlError::Syntax);
     }
     match select {
         Stmt::Select {
@@ -268,12 +268,12 @@ fn declared_over<'a>(cursor: &'a [u8], select: Stmt<'a>) -> Result<Stmt<'a>, Sql
             table,
             filter,
         }),
-        _ => Err(SqlFault::Syntax),
+        _ => Err(SqlError::Syntax),
     }
 }
 
 /// The SELECT of a cursor.
-fn rows<'a>(text: &'a [u8], cursor: &'a [u8]) -> Result<Stmt<'a>, SqlFault>
+fn rows<'a>(text: &'a [u8], cursor: &'a [u8]) -> Result<Stmt<'a>, SqlError>
     ensures { Reads result (read (spec.rows_of (folded cursor.now)) (phrase text.now)) }
 {
     let rest = expect_word(text, b"select")?;
@@ -282,7 +282,7 @@ fn rows<'a>(text: &'a [u8], cursor: &'a [u8]) -> Result<Stmt<'a>, SqlFault>
 }
 
 /// DECLARE, after that word.
-pub(crate) fn declare(text: &[u8]) -> Result<Stmt<'_>, SqlFault>
+pub(crate) fn declare(text: &[u8]) -> Result<Stmt<'_>, SqlError>
     ensures { Reads result (read spec.declare (phrase text.now)) }
 {
     let (cursor, after_name) = take_name(text)?;
@@ -294,7 +294,7 @@ pub(crate) fn declare(text: &[u8]) -> Result<Stmt<'_>, SqlFault>
 }
 
 /// FETCH, after that word.
-pub(crate) fn fetch(text: &[u8]) -> Result<Stmt<'_>, SqlFault>
+pub(crate) fn fetch(text: &[u8]) -> Result<Stmt<'_>, SqlError>
     ensures { Reads result (read spec.fetch (phrase text.now)) }
 {
     let (count, after_count) = take_count(text)?;
@@ -304,7 +304,7 @@ pub(crate) fn fetch(text: &[u8]) -> Result<Stmt<'_>, SqlFault>
 }
 
 /// CLOSE, after that word.
-pub(crate) fn close(text: &[u8]) -> Result<Stmt<'_>, SqlFault>
+pub(crate) fn close(text: &[u8]) -> Result<Stmt<'_>, SqlError>
     ensures { Reads result (read spec.close (phrase text.now)) }
 {
     let (cursor, rest) = take_name(text)?;

@@ -18,6 +18,6 @@ pub use stmt::{Filter, Operand, Setting, Stmt};
 
 /// Why a text is no statement.
 #[derive(Clone, Copy, Drop)]
-pub enum SqlFault {
+pub enum SqlError {
     Syntax,
 }

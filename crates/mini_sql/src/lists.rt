@@ -4,7 +4,7 @@ ghost use Rattle.mini_sql.specs.Statements.{at_most_64, columns_at, items, opera
 ghost use Rattle.mini_sql.specs.Reading.{Follows};
 ghost use Rattle.mini_sql.specs.Lists.{columns_from, items_of, operands_from, rest_of};
 
-use crate::SqlFault;
+use crate::SqlError;
 use crate::parts::{next_item, take_column, take_operand};
 use crate::stmt::Operand;
 
@@ -143,7 +143,7 @@ fn count_operands(text: &[u8]) -> usize
 }
 
 /// What follows a list of columns.
-pub(crate) fn after_columns(typed: bool, text: &[u8]) -> Result<&[u8], SqlFault>
+pub(crate) fn after_columns(typed: bool, text: &[u8]) -> Result<&[u8], SqlError>
     ensures { Follows result (rest_of (at_most_64 (read (columns_at typed) (phrase text.now)))) }
 {
     let mut rest = text;
@@ -154,11 +154,11 @@ pub(crate) fn after_columns(typed: bool, text: &[u8]) -> Result<&[u8], SqlFault>
             None => return Ok(after),
         }
     }
-    Err(SqlFault::Syntax)
+    Err(SqlError::Syntax)
 }
 
 /// What follows a list of values.
-pub(crate) fn after_operands(text: &[u8]) -> Result<&[u8], SqlFault>
+pub(crate) fn after_operands(text: &[u8]) -> Result<&[u8], SqlError>
     ensures { Follows result (rest_of (read (items operand_of) (phrase text.now))) }
 {
     let mut rest = text;

@@ -8,7 +8,7 @@ ghost use Rattle.mini_sql.specs.Reading.{Follows, Takes, has_token, is_end, pass
 ghost use Rattle.mini_sql.specs.Lists.{GoesOn, IsItem};
 ghost use Rattle.mini_sql.specs.Meanings.{IsNumber, operand_value, setting_value};
 
-use crate::SqlFault;
+use crate::SqlError;
 use crate::stmt::{Operand, Setting};
 use crate::token::{Token, next_token};
 
@@ -20,7 +20,7 @@ pub fn is_same_word(a: &[u8], b: &[u8]) -> bool
 }
 
 /// The first token and what follows it.
-fn some_token(text: &[u8]) -> Result<(Token<'_>, &[u8]), SqlFault>
+fn some_token(text: &[u8]) -> Result<(Token<'_>, &[u8]), SqlError>
     ensures read { MatchResult result
         (λ p. phrase text.now ≡ after_token (token_of p.0) (phrase p.1.now))
         (λ e. has_token (phrase text.now) ≡ false) }
@@ -28,7 +28,7 @@ fn some_token(text: &[u8]) -> Result<(Token<'_>, &[u8]), SqlFault>
 {
     match next_token(text) {
         Ok(Some(first)) => Ok(first),
-        Ok(None) => Err(SqlFault::Syntax),
+        Ok(None) => Err(SqlError::Syntax),
         Err(fault) => Err(fault),
     }
 }
@@ -54,14 +54,14 @@ pub(crate) fn is_word(token: &Token<'_>, word: &[u8]) -> bool
 }
 
 /// What follows a word.
-pub(crate) fn expect_word<'a>(text: &'a [u8], word: &[u8]) -> Result<&'a [u8], SqlFault>
+pub(crate) fn expect_word<'a>(text: &'a [u8], word: &[u8]) -> Result<&'a [u8], SqlError>
     ensures { Follows result (passed (is_word word.now) (phrase text.now)) }
 {
     let (token, rest) = some_token(text)?;
     if is_word(&token, word) {
         Ok(rest)
     } else {
-        Err(SqlFault::Syntax)
+        Err(SqlError::Syntax)
     }
 }
 
@@ -76,14 +76,14 @@ pub(crate) fn expect_either<'a>(
     text: &'a [u8],
     word: &[u8],
     other: &[u8],
-) -> Result<&'a [u8], SqlFault>
+) -> Result<&'a [u8], SqlError>
     ensures { Follows result (passed (λ t. is_word word.now t || is_word other.now t) (phrase text.now)) }
 {
     let (token, rest) = some_token(text)?;
     if is_either(&token, word, other) {
         Ok(rest)
     } else {
-        Err(SqlFault::Syntax)
+        Err(SqlError::Syntax)
     }
 }
 
@@ -97,7 +97,7 @@ fn is_sign(token: &Token<'_>, sign: u8) -> bool
 }
 
 /// What follows a sign.
-pub(crate) fn expect_sign(text: &[u8], sign: u8) -> Result<&[u8], SqlFault>
+pub(crate) fn expect_sign(text: &[u8], sign: u8) -> Result<&[u8], SqlError>
     ensures read { MatchResult result
         (λ rest. phrase text.now ≡ after_token (Sign sign) (phrase rest.now))
         (λ e. passed (is_sign sign) (phrase text.now) ≡ None) }
@@ -107,7 +107,7 @@ pub(crate) fn expect_sign(text: &[u8], sign: u8) -> Result<&[u8], SqlFault>
     if is_sign(&token, sign) {
         Ok(rest)
     } else {
-        Err(SqlFault::Syntax)
+        Err(SqlError::Syntax)
     }
 }
 
@@ -118,14 +118,14 @@ fn assigns(token: &Token<'_>) -> bool
 }
 
 /// What follows the word TO or the sign `=`.
-pub(crate) fn expect_assignment(text: &[u8]) -> Result<&[u8], SqlFault>
+pub(crate) fn expect_assignment(text: &[u8]) -> Result<&[u8], SqlError>
     ensures { Follows result (passed (λ t. is_word (codes "to") t || is_sign equal t) (phrase text.now)) }
 {
     let (token, rest) = some_token(text)?;
     if assigns(&token) {
         Ok(rest)
     } else {
-        Err(SqlFault::Syntax)
+        Err(SqlError::Syntax)
     }
 }
 
@@ -140,14 +140,14 @@ fn name_at<'a>(token: Token<'a>) -> Option<&'a [u8]>
 }
 
 /// A name and what follows it.
-pub(crate) fn take_name(text: &[u8]) -> Result<(&[u8], &[u8]), SqlFault>
+pub(crate) fn take_name(text: &[u8]) -> Result<(&[u8], &[u8]), SqlError>
     ensures name { Takes (λ n. n.now) result (taken name_of (phrase text.now)) }
     ensures column { Takes (λ n. folded n.now) result (taken column_of (phrase text.now)) }
 {
     let (token, rest) = some_token(text)?;
     match name_at(token) {
         Some(name) => Ok((name, rest)),
-        None => Err(SqlFault::Syntax),
+        None => Err(SqlError::Syntax),
     }
 }
 
@@ -168,13 +168,13 @@ fn setting_at<'a>(token: Token<'a>) -> Option<Setting<'a>>
 }
 
 /// What a parameter is set to, and what follows it.
-pub(crate) fn take_setting(text: &[u8]) -> Result<(Setting<'_>, &[u8]), SqlFault>
+pub(crate) fn take_setting(text: &[u8]) -> Result<(Setting<'_>, &[u8]), SqlError>
     ensures { Takes setting_value result (taken setting_of (phrase text.now)) }
 {
     let (token, rest) = some_token(text)?;
     match setting_at(token) {
         Some(setting) => Ok((setting, rest)),
-        None => Err(SqlFault::Syntax),
+        None => Err(SqlError::Syntax),
     }
 }
 
@@ -195,7 +195,7 @@ fn operand_at<'a>(token: Token<'a>) -> Option<Operand<'a>>
 }
 
 /// A value and what follows it.
-pub(crate) fn take_operand(text: &[u8]) -> Result<(Operand<'_>, &[u8]), SqlFault>
+pub(crate) fn take_operand(text: &[u8]) -> Result<(Operand<'_>, &[u8]), SqlError>
     ensures read { Takes operand_value result (taken operand_of (phrase text.now)) }
     ensures item { IsItem operand_value (items operand_of) result (phrase text.now) }
     ensures shorter { IfOk result (λ p. length p.1.now < length text.now) }
@@ -203,7 +203,7 @@ pub(crate) fn take_operand(text: &[u8]) -> Result<(Operand<'_>, &[u8]), SqlFault
     let (token, rest) = some_token(text)?;
     match operand_at(token) {
         Some(operand) => Ok((operand, rest)),
-        None => Err(SqlFault::Syntax),
+        None => Err(SqlError::Syntax),
     }
 }
 
@@ -256,18 +256,18 @@ fn count_at(token: Token<'_>) -> Option<Option<u32>>
 }
 
 /// How many rows are asked for (`None`: all), and what follows it.
-pub(crate) fn take_count(text: &[u8]) -> Result<(Option<u32>, &[u8]), SqlFault>
+pub(crate) fn take_count(text: &[u8]) -> Result<(Option<u32>, &[u8]), SqlError>
     ensures { Takes (λ n. n) result (taken count_of (phrase text.now)) }
 {
     let (token, rest) = some_token(text)?;
     match count_at(token) {
         Some(count) => Ok((count, rest)),
-        None => Err(SqlFault::Syntax),
+        None => Err(SqlError::Syntax),
     }
 }
 
 /// A column's name and what follows it, or with its type.
-pub(crate) fn take_column(typed: bool, text: &[u8]) -> Result<(&[u8], &[u8]), SqlFault>
+pub(crate) fn take_column(typed: bool, text: &[u8]) -> Result<(&[u8], &[u8]), SqlError>
     ensures { IsItem (λ n. folded n.now) (columns_at typed) result (phrase text.now) }
 {
     let (name, rest) = take_name(text)?;

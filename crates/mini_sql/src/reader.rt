@@ -4,7 +4,7 @@ ghost use Rattle.mini_sql.specs.Lexing.{token_of};
 ghost use Rattle.mini_sql.specs.Statements.{of_cursor, of_other, of_word, phrase, read, statement};
 ghost use Rattle.mini_sql.specs.Meanings.{Reads, meaning};
 
-use crate::SqlFault;
+use crate::SqlError;
 use crate::forms::{
     block, close, create, declare, discard, drop_table, fetch, insert, reset, select, set, show,
 };
@@ -17,8 +17,8 @@ use crate::token::{Token, next_token};
 /// Words are matched without regard to ASCII case, and none is reserved. White space is space, tab, LF, CR and FF, and one semicolon may
 /// end the text. The forms are BEGIN, COMMIT and ROLLBACK with WORK or TRANSACTION after them or not, SET with SESSION or LOCAL
 /// after it or not, RESET, SHOW, DISCARD ALL, CREATE TEMP TABLE, DROP TABLE, INSERT, SELECT, and of a cursor DECLARE, FETCH and
-/// CLOSE; every other text is `SqlFault::Syntax`.
-pub fn read_statement<'a>(text: &'a [u8]) -> Result<Stmt<'a>, SqlFault>
+/// CLOSE; every other text is `SqlError::Syntax`.
+pub fn read_statement<'a>(text: &'a [u8]) -> Result<Stmt<'a>, SqlError>
     ensures { MatchResult result (λ s. statement text.now ≡ Some (meaning s)) (λ e. statement text.now ≡ None) }
 {
     match next_token(text) {
@@ -29,7 +29,7 @@ pub fn read_statement<'a>(text: &'a [u8]) -> Result<Stmt<'a>, SqlFault>
 }
 
 /// The statement that begins with a word.
-fn statement_of<'a>(word: Token<'a>, rest: &'a [u8]) -> Result<Stmt<'a>, SqlFault>
+fn statement_of<'a>(word: Token<'a>, rest: &'a [u8]) -> Result<Stmt<'a>, SqlError>
     ensures { Reads result (read (of_word (token_of word.entry)) (phrase rest.now)) }
 {
     if is_word(&word, b"begin") {
@@ -54,7 +54,7 @@ fn statement_of<'a>(word: Token<'a>, rest: &'a [u8]) -> Result<Stmt<'a>, SqlFaul
 }
 
 /// The statement that begins with one of the other words.
-fn other_statement<'a>(word: Token<'a>, rest: &'a [u8]) -> Result<Stmt<'a>, SqlFault>
+fn other_statement<'a>(word: Token<'a>, rest: &'a [u8]) -> Result<Stmt<'a>, SqlError>
     ensures { Reads result (read (of_other (token_of word.entry)) (phrase rest.now)) }
 {
     if is_word(&word, b"discard") {
@@ -76,7 +76,7 @@ fn other_statement<'a>(word: Token<'a>, rest: &'a [u8]) -> Result<Stmt<'a>, SqlF
 }
 
 /// The statement of a cursor that begins with a word.
-fn cursor_statement<'a>(word: Token<'a>, rest: &'a [u8]) -> Result<Stmt<'a>, SqlFault>
+fn cursor_statement<'a>(word: Token<'a>, rest: &'a [u8]) -> Result<Stmt<'a>, SqlError>
     ensures { Reads result (read (of_cursor (token_of word.entry)) (phrase rest.now)) }
 {
     if is_word(&word, b"declare") {
@@ -88,5 +88,5 @@ fn cursor_statement<'a>(word: Token<'a>, rest: &'a [u8]) -> Result<Stmt<'a>, Sql
     if is_word(&word, b"close") {
         return close(rest);
     }
-    Err(SqlFault::Syntax)
+    Err(SqlError::Syntax)
 }

@@ -5,7 +5,7 @@ ghost use Rattle.mini_sql.specs.Tokens.{after_token, is_sign_byte, literal_lengt
 ghost use Rattle.mini_sql.specs.Statements.{is_sign, less_semicolon, phrase};
 ghost use Rattle.mini_sql.specs.Lexing.{IsFirst, IsFront, token_of};
 
-use crate::SqlFault;
+use crate::SqlError;
 use crate::literal::Literal;
 use memchr::memchr2;
 
@@ -199,7 +199,7 @@ fn token_at(text: &[u8]) -> Option<(Token<'_>, usize)>
 }
 
 /// The first token of a text and what follows it; none at the end.
-fn first_token(text: &[u8]) -> Result<Option<(Token<'_>, &[u8])>, SqlFault>
+fn first_token(text: &[u8]) -> Result<Option<(Token<'_>, &[u8])>, SqlError>
     ensures read { IsFirst tokens result (tokens text.now) }
     ensures shorter { IfOk result (λ o. IfSome o (λ p. length p.1.now < length text.now)) }
 {
@@ -209,7 +209,7 @@ fn first_token(text: &[u8]) -> Result<Option<(Token<'_>, &[u8])>, SqlFault>
     }
     match token_at(start) {
         Some((token, length)) => Ok(Some((token, &start[length..]))),
-        None => Err(SqlFault::Syntax),
+        None => Err(SqlError::Syntax),
     }
 }
 
@@ -241,7 +241,7 @@ fn is_last(token: &Token<'_>, rest: &[u8]) -> bool
 }
 
 /// The first token of a text, less one last semicolon, and what follows it; none at the end.
-pub(crate) fn next_token(text: &[u8]) -> Result<Option<(Token<'_>, &[u8])>, SqlFault>
+pub(crate) fn next_token(text: &[u8]) -> Result<Option<(Token<'_>, &[u8])>, SqlError>
     ensures read { IsFirst phrase result (phrase text.now) }
     ensures shorter { IfOk result (λ o. IfSome o (λ p. length p.1.now < length text.now)) }
 {

@@ -9,8 +9,8 @@ use crate::making::{CUT, PASSWORD, key, server};
 use crate::told::{put_bytes, put_numbers, put_unless};
 use credentials::Credential;
 use link_run::links::{CleanLink, UsedLink};
-use link_run::reset::{Disposed, ResetFault, reset_link};
-use link_start::start::{StartCause, StartLinkFault, start_link};
+use link_run::reset::{Disposed, ResetError, reset_link};
+use link_start::start::{StartCause, StartLinkError, start_link};
 use memory_ends::memory_client::MemoryClient;
 use relay_core::relay::{Relay, Returned};
 use server_end::ServerEnd;
@@ -28,10 +28,10 @@ const READY: &[u8] = b"Z\0\0\0\x05I";
 
 /// What was handed back by a start.
 fn put_start_fault<E: ServerEnd>(
-    fault: StartLinkFault<E>,
+    fault: StartLinkError<E>,
     out: &mut Vec<u8>,
 ) -> Result<(), AllocError> {
-    let StartLinkFault { mut end, cause } = fault;
+    let StartLinkError { mut end, cause } = fault;
     let is_as_told = match cause {
         StartCause::Memory => is_alive(&mut end),
         StartCause::Lost => has_ended(&mut end),
@@ -155,8 +155,8 @@ fn put_reset_fault<E: ServerEnd>(
 ) -> Result<(), AllocError> {
     let Disposed { mut end, cause } = disposed;
     let is_as_told = match cause {
-        ResetFault::Memory => still_answers(alloc, &mut end)?,
-        ResetFault::Lost => has_ended(&mut end),
+        ResetError::Memory => still_answers(alloc, &mut end)?,
+        ResetError::Lost => has_ended(&mut end),
         _ => false,
     };
     put_unless(is_as_told, b"a reset hands another end back", out)

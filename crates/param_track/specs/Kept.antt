@@ -3,8 +3,8 @@ use Rattle.std.specs.Prelude.{◌≡◌, ℕ, suc, List, [], ◌∷◌, ◌++◌
 use Rattle.std.specs.List.{list_any}
 use Rattle.start_keys.specs.StartPairs.{Text}
 use Rattle.param_track.specs.declared.reported.TheConstants.{MOST_NAMES}
-use Rattle.param_track.specs.declared.reported.ReportFault.{ReportFault}
-use Rattle.param_track.specs.declared.reported.ReportFault.TheVariants.{TooMany, OutOfMemory}
+use Rattle.param_track.specs.declared.reported.ReportError.{ReportError}
+use Rattle.param_track.specs.declared.reported.ReportError.TheVariants.{TooMany, OutOfMemory}
 use Rattle.param_track.specs.Reports.{Report, last_told}
 
 -- a name that the start reported, the start's value, and whether the value last told is another
@@ -38,7 +38,7 @@ abbrev pub fits : List Kept → Text → Bool
 fits kept name = has_name kept name || nat_lt (length kept) MOST_NAMES
 
 -- It was added; or all is as it was, and it doesn't fit or memory was refused.
-abbrev pub Adds : Report → List Kept → List Kept → Result (Unit {0}) ReportFault → Type 0
+abbrev pub Adds : Report → List Kept → List Kept → Result (Unit {0}) ReportError → Type 0
 Adds r old new (Ok _) = (fits old r.0 ≡ true) × (new ≡ with_first old r)
 Adds r old new (Err TooMany) = (fits old r.0 ≡ false) × (new ≡ old)
 Adds r old new (Err OutOfMemory) = (fits old r.0 ≡ true) × (new ≡ old)

@@ -13,8 +13,8 @@ use Rattle.start_keys.specs.Lawful.{is_identity}
 use Rattle.start_keys.specs.State.{StartKeyOf}
 pub use Rattle.start_keys.specs.StartPairs.{Text, Pair, user_in, database_in}
 use Rattle.start_keys.specs.StartPairs.{put, folded}
-use Rattle.param_track.specs.declared.StartFault.{StartFault}
-use Rattle.param_track.specs.declared.StartFault.TheVariants.{NoUser, UnsupportedParameter, Replication as Replicates, Memory}
+use Rattle.param_track.specs.declared.StartKeyError.{StartKeyError}
+use Rattle.param_track.specs.declared.StartKeyError.TheVariants.{NoUser, UnsupportedParameter, Replication as Replicates, Memory}
 use Rattle.param_track.specs.declared.uses.Use.{Use}
 use Rattle.param_track.specs.declared.uses.Use.TheVariants.{Identity, Followed, Dropped, Unsupported, Replication}
 
@@ -87,18 +87,18 @@ key_at (Some row) database user parameters = record { row = database; host = Som
 key_at None database user parameters = record { row = database; host = None; port = 0; dbname = []; user = user; parameters = parameters }
 
 -- the first reason that holds, wherever it stands among the pairs
-abbrev pub refusal : Names → List Pair → Option StartFault
+abbrev pub refusal : Names → List Pair → Option StartKeyError
 refusal names pairs =
     if length (user_in pairs) == 0 then Some NoUser else (
     if has_use names Unsupported pairs then Some UnsupportedParameter else (
     if has_use names Replication pairs then Some Replicates else None))
 
-abbrev pub unless : {A : Type 0} → Option StartFault → A → Result A StartFault
+abbrev pub unless : {A : Type 0} → Option StartKeyError → A → Result A StartKeyError
 unless None x = Ok x
 unless (Some fault) x = Err fault
 
 -- the key of a client whose database has this row, or none
-abbrev pub start_key : Option DbRow → Names → List Pair → Result StartKeyOf StartFault
+abbrev pub start_key : Option DbRow → Names → List Pair → Result StartKeyOf StartKeyError
 start_key row names pairs = unless (refusal names pairs) (key_at row (database_in pairs) (user_in pairs) (parameters_in names pairs))
 
 -- ---- under the settings
@@ -106,11 +106,11 @@ start_key row names pairs = unless (refusal names pairs) (key_at row (database_i
 abbrev pub wanted_key : Settings → List Pair → StartKeyOf
 wanted_key s pairs = key_at (row_for (database_in pairs) s.rows) (database_in pairs) (user_in pairs) (parameters_in (names_of s) pairs)
 
-abbrev pub start_key_under : Settings → List Pair → Result StartKeyOf StartFault
+abbrev pub start_key_under : Settings → List Pair → Result StartKeyOf StartKeyError
 start_key_under s pairs = start_key (row_for (database_in pairs) s.rows) (names_of s) pairs
 
 -- the answer is the definition's; out of memory comes only in the stead of a key
-abbrev pub Answers : Result StartKeyOf StartFault → Result StartKeyOf StartFault → Type 0
+abbrev pub Answers : Result StartKeyOf StartKeyError → Result StartKeyOf StartKeyError → Type 0
 Answers (Err Memory) (Ok key) = Unit {0}
 Answers (Err Memory) (Err fault) = ⊥
 Answers given wanted = wanted ≡ given

@@ -3,7 +3,7 @@ ghost use Rattle.std.specs.Prelude.{◌≡◌, IfOk};
 ghost use Rattle.message_view.specs.Left.{pairs_left};
 ghost use Rattle.param_track.specs.StartKeys as spec;
 
-use crate::StartFault;
+use crate::StartKeyError;
 use crate::uses::{Use, has_use, use_of};
 use ini_config::Settings;
 use message_view::StartupView;
@@ -62,17 +62,17 @@ fn wanted_key(
 }
 
 /// The first reason for which the settings refuse the message.
-fn refusal(settings: &Settings, start: &StartupView<'_>) -> Option<StartFault>
+fn refusal(settings: &Settings, start: &StartupView<'_>) -> Option<StartKeyError>
     ensures { result ≡ spec.refusal (spec.names_of settings.now) (pairs_left start.now.pairs) }
 {
     if user_of(start).is_empty() {
-        return Some(StartFault::NoUser);
+        return Some(StartKeyError::NoUser);
     }
     if has_use(settings, start, Use::Unsupported) {
-        return Some(StartFault::UnsupportedParameter);
+        return Some(StartKeyError::UnsupportedParameter);
     }
     if has_use(settings, start, Use::Replication) {
-        return Some(StartFault::Replication);
+        return Some(StartKeyError::Replication);
     }
     None
 }
@@ -85,13 +85,13 @@ fn refusal(settings: &Settings, start: &StartupView<'_>) -> Option<StartFault>
 /// are matched exactly, and no name that folds to one of them is followed. A database that is missing or empty is that of the
 /// user's name.
 ///
-/// [`StartFault::NoUser`], [`StartFault::UnsupportedParameter`] and [`StartFault::Replication`], the first that holds in this
-/// order; [`StartFault::Memory`] only where none of them does.
+/// [`StartKeyError::NoUser`], [`StartKeyError::UnsupportedParameter`] and [`StartKeyError::Replication`], the first that holds in this
+/// order; [`StartKeyError::Memory`] only where none of them does.
 pub fn start_key(
     alloc: Global,
     settings: &Settings,
     start: &StartupView<'_>,
-) -> Result<StartKey, StartFault>
+) -> Result<StartKey, StartKeyError>
     ensures { spec.Answers result (spec.start_key_under settings.now (pairs_left start.now.pairs)) }
 {
     if let Some(fault) = refusal(settings, start) {

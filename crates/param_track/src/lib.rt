@@ -8,16 +8,16 @@ mod reported;
 mod uses;
 
 ghost use Rattle.std.specs.Prelude.{◌≡◌};
-ghost use Rattle.param_track.specs.declared.StartFault.TheVariants.{Memory};
+ghost use Rattle.param_track.specs.declared.StartKeyError.TheVariants.{Memory};
 
 pub use key::start_key;
-pub use reported::{MOST_NAMES, ReportFault, Reported, StartReport};
+pub use reported::{MOST_NAMES, ReportError, Reported, StartReport};
 use std::alloc::AllocError;
 pub use uses::unsupported_name;
 
 /// Why a StartupMessage gives no start key. The first of these that holds is told, wherever they stand in the message.
 #[derive(Clone, Copy, Debug, PartialEq, Eq, Drop)]
-pub enum StartFault {
+pub enum StartKeyError {
     /// No user, or an empty one.
     NoUser,
     /// A parameter that is neither followed nor ignored.
@@ -28,10 +28,10 @@ pub enum StartFault {
     Memory,
 }
 
-impl From<AllocError> for StartFault {
+impl From<AllocError> for StartKeyError {
     ghost from_gives = { λ _ fault. fault ≡ Memory };
 
-    fn from(_error: AllocError) -> StartFault {
-        StartFault::Memory
+    fn from(_error: AllocError) -> StartKeyError {
+        StartKeyError::Memory
     }
 }

@@ -1,7 +1,7 @@
 //! What a link's server reported of its parameters at the start, and whether it has told other values since
 //! (PostgreSQL manual, "Asynchronous Operations").
 ghost use Rattle.std.specs.Prelude.{◌≡◌, ◌≤◌, ◌<◌, [], true, bytes_eq, length, IfOk, OnErr, OnOk};
-ghost use Rattle.param_track.specs.declared.reported.ReportFault.TheVariants.{OutOfMemory};
+ghost use Rattle.param_track.specs.declared.reported.ReportError.TheVariants.{OutOfMemory};
 ghost use Rattle.param_track.specs.Kept as spec;
 ghost use Rattle.param_track.specs.Kept.{Adds, Tells, first_told, has_name, is_at_start, told, with_first, with_told};
 
@@ -15,18 +15,18 @@ pub const MOST_NAMES: usize = 64;
 
 /// Why a report of the start wasn't added.
 #[derive(Clone, Copy, Debug, PartialEq, Eq, Drop)]
-pub enum ReportFault {
+pub enum ReportError {
     /// [`MOST_NAMES`] other names were reported already.
     TooMany,
     /// An allocation failed.
     OutOfMemory,
 }
 
-impl From<AllocError> for ReportFault {
+impl From<AllocError> for ReportError {
     ghost from_gives = { λ _ fault. fault ≡ OutOfMemory };
 
-    fn from(_error: AllocError) -> ReportFault {
-        ReportFault::OutOfMemory
+    fn from(_error: AllocError) -> ReportError {
+        ReportError::OutOfMemory
     }
 }
 
@@ -210,13 +210,13 @@ impl Reported {
     /// Adds a report of the start. Of a name that was reported already the new value counts, at its old
     /// place: what the server told last is what it is held to.
     ///
-    /// [`ReportFault::TooMany`] where it is a new name and [`MOST_NAMES`] are there;
-    /// [`ReportFault::OutOfMemory`] only where there is none left. With either all stays as it was.
-    pub fn add(&mut self, alloc: Global, report: &StatusView<'_>) -> Result<(), ReportFault>
+    /// [`ReportError::TooMany`] where it is a new name and [`MOST_NAMES`] are there;
+    /// [`ReportError::OutOfMemory`] only where there is none left. With either all stays as it was.
+    pub fn add(&mut self, alloc: Global, report: &StatusView<'_>) -> Result<(), ReportError>
         ensures { Adds (report.now.name.now, report.now.setting.now) self.old self.new result }
     {
         if !self.fits(report.name) {
-            return Err(ReportFault::TooMany);
+            return Err(ReportError::TooMany);
         }
         self.put(alloc, report)?;
         Ok(())

@@ -1,7 +1,7 @@
 -- The status that the program ends with.
 use Rattle.std.specs.Prelude.{ℕ, Result, Ok, Err}
 use Rattle.pool_app.specs.Faults.{status}
-use Rattle.pool_app.specs.declared.fault.AppFault.{AppFault}
+use Rattle.pool_app.specs.declared.fault.AppError.{AppError}
 use Rattle.pgsess.specs.declared.Done.{Done}
 use Rattle.pgsess.specs.declared.Done.TheVariants.{Well, Faulty}
 use Rattle.std.specs.declared.io.ErrorKind.{ErrorKind}
@@ -12,7 +12,7 @@ abbrev pub status_of : Done → ℕ
 status_of Well = 0
 status_of Faulty = 1
 
-abbrev pub status_after : Result Done AppFault → ℕ
+abbrev pub status_after : Result Done AppError → ℕ
 status_after (Ok done) = status_of done
 status_after (Err fault) = status fault
 

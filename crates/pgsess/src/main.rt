@@ -11,10 +11,10 @@ mod socket_file;
 use crate::listeners::{listen_at_addresses, listen_for_metrics, listen_in_folder};
 use crate::socket_file::SocketFile;
 use ini_config::Settings;
-use pool_app::fault::{self, AppFault};
+use pool_app::fault::{self, AppError};
 use pool_app::files::{self, Inputs};
 use pool_app::line::{self, Job};
-use pool_run::keeping::{Source, Unread};
+use pool_run::keeping::{Source, ReloadError};
 use pool_run::listening::Listening;
 use pool_run::pool::serve_on;
 use pool_run::runtime::PoolRuntime;
@@ -66,7 +66,7 @@ fn named_files(
 }
 
 impl Source for NamedFiles {
-    fn read(&self) -> Result<(Settings, UserTable), Unread> {
+    fn read(&self) -> Result<(Settings, UserTable), ReloadError> {
         let users = match &self.users {
             Some(path) => Some(path.as_str()),
             None => None,
@@ -78,8 +78,8 @@ impl Source for NamedFiles {
         // a fault of its lines tells the setting that names the file
         let users = users.unwrap_or("auth_file");
         match fault::again_text(self.alloc, &fault, &self.ini, users) {
-            Ok(text) => Err(Unread::Fault(text)),
-            Err(_) => Err(Unread::Memory),
+            Ok(text) => Err(ReloadError::Fault(text)),
+            Err(_) => Err(ReloadError::Memory),
         }
     }
 
@@ -123,9 +123,9 @@ fn check<'a, R: Files + Print>(
     alloc: Global,
     ini: &'a str,
     users: Option<&'a str>,
-) -> Result<Done, AppFault<'a>> {
+) -> Result<Done, AppError<'a>> {
     let report = files::check(rt, alloc, ini, users)?;
-    print_lines(&mut io::writer(rt), report.lines.as_slice()).map_err(|_| AppFault::Stdout)?;
+    print_lines(&mut io::writer(rt), report.lines.as_slice()).map_err(|_| AppError::Stdout)?;
     if report.is_faulty {
         return Ok(Done::Faulty);
     }
@@ -139,19 +139,19 @@ fn serve<'a, R: Print + PoolRuntime + 'static>(
     alloc: Global,
     inputs: Inputs,
     source: NamedFiles,
-) -> Result<Done, AppFault<'a>>
+) -> Result<Done, AppError<'a>>
     requires { AreWithinBounds inputs.settings }
 {
     let port = inputs.settings.listen_port();
     let mut listening = Listening::new(alloc);
     listen_at_addresses(&rt, &host, alloc, &inputs.settings, &mut listening).map_err(
-        |_| AppFault::Port(port),
+        |_| AppError::Port(port),
     )?;
     let mut source = source;
     source.socket = listen_in_folder(&host, alloc, &inputs.settings, &mut listening).map_err(
-        |_| AppFault::Memory,
+        |_| AppError::Memory,
     )?;
-    listen_for_metrics(&rt, alloc, &inputs.settings, &mut listening).map_err(|_| AppFault::Memory)?;
+    listen_for_metrics(&rt, alloc, &inputs.settings, &mut listening).map_err(|_| AppError::Memory)?;
     // that nobody reads it is no reason not to serve
     let _ = listening.print(&rt);
     let Inputs {
@@ -166,8 +166,8 @@ fn serve<'a, R: Print + PoolRuntime + 'static>(
         rt, alloc, listening, settings, users, source, log, seed, None,
     ) {
         Ok(Some(_)) => Ok(Done::Well),
-        Ok(None) => Err(AppFault::Totals),
-        Err(_) => Err(AppFault::Memory),
+        Ok(None) => Err(AppError::Totals),
+        Err(_) => Err(AppError::Memory),
     }
 }
 
@@ -184,13 +184,13 @@ fn stub<
         + Copy
         + Send
         + 'static,
->(rt: R, alloc: Global, port: u16, catalogue: Catalogue) -> Result<Done, AppFault<'a>> {
+>(rt: R, alloc: Global, port: u16, catalogue: Catalogue) -> Result<Done, AppError<'a>> {
     let Ok(listener) = listen_at_name(&rt, alloc, HERE, port) else {
-        return Err(AppFault::Port(port));
+        return Err(AppError::Port(port));
     };
     match stub_on(rt, alloc, listener, catalogue, None) {
         Ok(()) => Ok(Done::Well),
-        Err(_) => Err(AppFault::Memory),
+        Err(_) => Err(AppError::Memory),
     }
 }
 
@@ -208,7 +208,7 @@ fn run<
         + Send
         + Sync
         + 'static,
->(rt: R, host: HostRuntime, alloc: Global, job: Job<'a>) -> Result<Done, AppFault<'a>> {
+>(rt: R, host: HostRuntime, alloc: Global, job: Job<'a>) -> Result<Done, AppError<'a>> {
     match job {
         Job::Replay => {
             replay(alloc, rt.reader(), &mut io::writer(&rt))?;
@@ -220,7 +220,7 @@ fn run<
             key_seed,
         } => {
             let inputs = files::read_inputs(&rt, alloc, ini, users, key_seed)?;
-            let source = named_files(host, alloc, ini, users).map_err(|_| AppFault::Memory)?;
+            let source = named_files(host, alloc, ini, users).map_err(|_| AppError::Memory)?;
             serve(rt, host, alloc, inputs, source)
         }
         Job::Check { ini, users } => check(&rt, alloc, ini, users),
@@ -233,7 +233,7 @@ fn run<
 
 /// The status that the program ends with after its job: 0 where nothing failed, 1 after a report that tells a fault, else that of the
 /// fault.
-fn status_after(done: &Result<Done, AppFault<'_>>) -> u8
+fn status_after(done: &Result<Done, AppError<'_>>) -> u8
     ensures { result ≡ spec.status_after done.now }
 {
     match done {

@@ -9,7 +9,7 @@ use Rattle.session_values.specs.State.{StartKeyOf}
 use Rattle.login_core.specs.declared.steps.LoginStep.{LoginStep}
 use Rattle.login_core.specs.declared.steps.LoginStep.TheVariants as step
 use Rattle.login_core.specs.declared.steps.Question.{Question}
-use Rattle.login_core.specs.declared.steps.Failure.{Failure}
+use Rattle.login_core.specs.declared.steps.LoginRefusal.{LoginRefusal}
 use Rattle.login_core.specs.Talk.{says}
 use Rattle.login_core.specs.Talk.End.{Passed}
 use Rattle.login_core.specs.Dialogue.{Dialogue, Rows, AtFirst, ToLink, if_any, login_among, row_in}
@@ -124,7 +124,7 @@ passes h word c key told l x = record {
   given = x.given;
 }
 
-pub fails : (h : MemoryPoolOf) (word : KeyWord) (c : ActClientOf) (f : Failure) (l : LoginView) → Steps h word c (step.Failed f) l → IsAtPiece h word (given_more c (failure_bytes f))
+pub fails : (h : MemoryPoolOf) (word : KeyWord) (c : ActClientOf) (f : LoginRefusal) (l : LoginView) → Steps h word c (step.Failed f) l → IsAtPiece h word (given_more c (failure_bytes f))
 fails h word c f l x =
     login_piece h word (given_more c (failure_bytes f)) _ (x.pieces ++ failure_bytes f ∷ []) []
     (ap (login_among (rows_of h) word) (sym (input_is c)) ∙ said h word c (step.Failed f) l x (steps_say x.old l x.before x.bytes x.pieces (step.Failed f) x.tells x.heard) (drop c.at c.input))

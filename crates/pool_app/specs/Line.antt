@@ -9,8 +9,8 @@ use Rattle.clap.specs.declared.error.kind.ErrorKind.TheVariants.{DisplayHelp, Di
 use Rattle.clap.specs.declared.builder.value_parser.ValueParser.TheVariants.{Signed}
 use Rattle.pool_app.specs.declared.line.Job.{Job}
 use Rattle.pool_app.specs.declared.line.Job.TheVariants.{Replay, Serve, Check, Stub}
-use Rattle.pool_app.specs.declared.line.LineFault.{LineFault}
-use Rattle.pool_app.specs.declared.line.LineFault.TheVariants.{Refused, NoJob}
+use Rattle.pool_app.specs.declared.line.LineError.{LineError}
+use Rattle.pool_app.specs.declared.line.LineError.TheVariants.{Refused, NoJob}
 
 -- an option with a value that must be there
 abbrev pub needed : Text → Rule
@@ -89,7 +89,7 @@ NamesNone None = ⊤
 NamesNone (Some sub) = IsNoJob sub.0 sub.1
 
 -- A line is refused where clap doesn't take its words, or memory is refused; or it names no job.
-abbrev pub IsFaultOf : List Text → LineFault → Type 0
+abbrev pub IsFaultOf : List Text → LineError → Type 0
 IsFaultOf words (Refused error) = takes pgsess words ≡ true → kind_of error ≡ OutOfMemory
 IsFaultOf words NoJob = NamesNone (subcommand_of pgsess words)
 
@@ -101,6 +101,6 @@ kind_status DisplayVersion = 0
 kind_status OutOfMemory = 1
 kind_status other = 2
 
-abbrev pub status : LineFault → ℕ
+abbrev pub status : LineError → ℕ
 status (Refused error) = kind_status (kind_of error)
 status NoJob = 2

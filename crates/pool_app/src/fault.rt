@@ -3,22 +3,22 @@ ghost use Rattle.std.specs.Prelude.{◌≡◌, IfOk, string_bytes};
 ghost use Rattle.pool_app.specs.Faults as spec;
 
 use itoa::Buffer;
-use session_catalogue::CatalogueFault;
+use session_catalogue::CatalogueError;
 use settings_check::codes::{ini_code, users_code};
 use std::alloc::{AllocError, Global};
 use std::io;
 
 /// A fault that ends the program. Its texts are those of the command line.
 #[derive(Drop, PartialEq, Eq)]
-pub enum AppFault<'a> {
+pub enum AppError<'a> {
     /// The file can't be read, is too long, or is a key seed that isn't 32 bytes long.
     File(&'a str),
     /// A faulty line of the settings.
-    Ini(ini_config::IniFault),
+    Ini(ini_config::IniError),
     /// A faulty line of the user file.
-    Users(user_file::UserFault),
+    Users(user_file::UserError),
     /// A faulty line of the catalogue.
-    Catalogue(CatalogueFault),
+    Catalogue(CatalogueError),
     /// Standard input can't be read, or is too long.
     Stdin,
     /// Standard output can't be written.
@@ -56,24 +56,24 @@ fn line_fault(alloc: Global, code: &str, line: usize) -> Result<String, AllocErr
 }
 
 /// The line that tells a fault, without its end. The only error is that an allocation failed.
-pub fn fault_line(alloc: Global, fault: &AppFault<'_>) -> Result<String, AllocError>
+pub fn fault_line(alloc: Global, fault: &AppError<'_>) -> Result<String, AllocError>
     ensures { IfOk result (λ t. string_bytes t ≡ spec.fault_line fault.now) }
 {
     match fault {
-        AppFault::File(path) => joined(alloc, "pgsess: file ", path),
-        AppFault::Ini(fault) => line_fault(alloc, ini_code(fault.cause), fault.line),
-        AppFault::Users(fault) => line_fault(alloc, users_code(fault.cause), fault.line),
-        AppFault::Catalogue(fault) => line_fault(alloc, fault.cause.code(), fault.line),
-        AppFault::Stdin => String::from_str(alloc, "pgsess: stdin"),
-        AppFault::Stdout => String::from_str(alloc, "pgsess: stdout"),
-        AppFault::Memory => String::from_str(alloc, "pgsess: memory"),
-        AppFault::Port(port) => {
+        AppError::File(path) => joined(alloc, "pgsess: file ", path),
+        AppError::Ini(fault) => line_fault(alloc, ini_code(fault.cause), fault.line),
+        AppError::Users(fault) => line_fault(alloc, users_code(fault.cause), fault.line),
+        AppError::Catalogue(fault) => line_fault(alloc, fault.cause.code(), fault.line),
+        AppError::Stdin => String::from_str(alloc, "pgsess: stdin"),
+        AppError::Stdout => String::from_str(alloc, "pgsess: stdout"),
+        AppError::Memory => String::from_str(alloc, "pgsess: memory"),
+        AppError::Port(port) => {
             let mut digits = Buffer::new();
             joined(alloc, "pgsess: port ", digits.format(*port))
         }
-        AppFault::Totals => String::from_str(alloc, "pgsess: totals"),
-        AppFault::AuthFile(path) => joined(alloc, "pgsess: file ", path.as_str()),
-        AppFault::NoUserFile => String::from_str(alloc, "pgsess: no user file"),
+        AppError::Totals => String::from_str(alloc, "pgsess: totals"),
+        AppError::AuthFile(path) => joined(alloc, "pgsess: file ", path.as_str()),
+        AppError::NoUserFile => String::from_str(alloc, "pgsess: no user file"),
     }
 }
 
@@ -93,36 +93,36 @@ fn fault_in(alloc: Global, code: &str, line: usize, path: &str) -> Result<String
 /// file; or the file that can't be read; or that memory was refused. The only error is that an allocation failed.
 pub fn again_text(
     alloc: Global,
-    fault: &AppFault<'_>,
+    fault: &AppError<'_>,
     ini: &str,
     users: &str,
 ) -> Result<String, AllocError>
     ensures { IfOk result (λ t. string_bytes t ≡ spec.again_text ini.now users.now fault.now) }
 {
     match fault {
-        AppFault::File(path) => joined(alloc, "file ", path),
-        AppFault::Ini(fault) => fault_in(alloc, ini_code(fault.cause), fault.line, ini),
-        AppFault::Users(fault) => fault_in(alloc, users_code(fault.cause), fault.line, users),
-        AppFault::AuthFile(path) => joined(alloc, "file ", path.as_str()),
-        AppFault::NoUserFile => String::from_str(alloc, "no user file"),
+        AppError::File(path) => joined(alloc, "file ", path),
+        AppError::Ini(fault) => fault_in(alloc, ini_code(fault.cause), fault.line, ini),
+        AppError::Users(fault) => fault_in(alloc, users_code(fault.cause), fault.line, users),
+        AppError::AuthFile(path) => joined(alloc, "file ", path.as_str()),
+        AppError::NoUserFile => String::from_str(alloc, "no user file"),
         _ => String::from_str(alloc, "memory"),
     }
 }
 
 /// The status that the program ends with: 3 where the port can't be had, 2 where no user file is named, as for other faults of the
 /// command line, and 1 for every other fault.
-pub fn status(fault: &AppFault<'_>) -> u8
+pub fn status(fault: &AppError<'_>) -> u8
     ensures { result ≡ spec.status fault.now }
 {
     match fault {
-        AppFault::Port(_) => 3,
-        AppFault::NoUserFile => 2,
+        AppError::Port(_) => 3,
+        AppError::NoUserFile => 2,
         _ => 1,
     }
 }
 
 /// Tells a fault on standard error. Where there is no memory for its line, it tells that.
-pub fn tell<R: Eprint>(rt: &R, alloc: Global, fault: &AppFault<'_>) -> io::Result<()> {
+pub fn tell<R: Eprint>(rt: &R, alloc: Global, fault: &AppError<'_>) -> io::Result<()> {
     match fault_line(alloc, fault) {
         Ok(line) => eprintln!(rt; "{line}"),
         Err(_) => eprintln!(rt; "pgsess: memory"),

@@ -4,7 +4,7 @@ ghost use Rattle.ini_config.specs.Bounds.{AreWithinBounds};
 ghost use Rattle.text_lines.specs.Lines.{lines, raw_lines};
 ghost use Rattle.pool_app.specs.Files as spec;
 
-use crate::fault::AppFault;
+use crate::fault::AppError;
 use bstr::ByteSlice;
 use ini_config::laws::read_settings_are_within_bounds;
 use ini_config::{Settings, read_settings};
@@ -27,7 +27,7 @@ const SYSTEM_SEED: &str = "/dev/urandom";
 
 /// What a whole read came to: more bytes than allowed, or a fault of the reader.
 #[derive(Drop)]
-pub enum ReadFault {
+pub enum ReadError {
     TooLong,
     Io(io::Error),
 }
@@ -43,7 +43,7 @@ pub struct Inputs {
 }
 
 /// All bytes of a reader, of which there are at most `most`.
-pub fn read_all<R: Read + Drop>(alloc: Global, input: R, most: u64) -> Result<Vec<u8>, ReadFault>
+pub fn read_all<R: Read + Drop>(alloc: Global, input: R, most: u64) -> Result<Vec<u8>, ReadError>
     requires { most < 2 ^ 63 }
     ensures all { IfOk result (λ v. IfSome (R.remaining input) (λ xs. v.items ≡ xs)) }
     ensures bound { IfOk result (λ v. length v.items ≤ most) }
@@ -53,21 +53,21 @@ pub fn read_all<R: Read + Drop>(alloc: Global, input: R, most: u64) -> Result<Ve
     let mut limited = input.take(most + 1);
     match limited.read_to_end(&mut all) {
         Ok(_) => {}
-        Err(error) => return Err(ReadFault::Io(error)),
+        Err(error) => return Err(ReadError::Io(error)),
     }
     if all.len() as u64 > most {
-        return Err(ReadFault::TooLong);
+        return Err(ReadError::TooLong);
     }
     Ok(all)
 }
 
 /// The fault of a file that wasn't read.
-fn unread<'a>(path: &'a str, fault: ReadFault) -> AppFault<'a>
+fn unread<'a>(path: &'a str, fault: ReadError) -> AppError<'a>
     ensures { spec.IsUnread path.entry result }
 {
     match fault {
-        ReadFault::Io(error) if error.kind() == ErrorKind::OutOfMemory => AppFault::Memory,
-        _ => AppFault::File(path),
+        ReadError::Io(error) if error.kind() == ErrorKind::OutOfMemory => AppError::Memory,
+        _ => AppError::File(path),
     }
 }
 
@@ -76,23 +76,23 @@ fn notices_of<'a>(
     alloc: Global,
     uses_auth_file: bool,
     text: &[u8],
-) -> Result<Vec<Text>, AppFault<'a>>
-    ensures { IfErr result (λ fault. fault ≡ AppFault.Memory) }
+) -> Result<Vec<Text>, AppError<'a>>
+    ensures { IfErr result (λ fault. fault ≡ AppError.Memory) }
 {
     match notices(alloc, uses_auth_file, text) {
         Ok(notices) => Ok(notices),
-        Err(_) => Err(AppFault::Memory),
+        Err(_) => Err(AppError::Memory),
     }
 }
 
 /// A path as faults show it: what isn't UTF-8 is replaced. Memory may be refused.
-fn shown_path<'a>(alloc: Global, path: &[u8]) -> Result<String, AppFault<'a>>
-    ensures { IfErr result (λ fault. fault ≡ AppFault.Memory) }
+fn shown_path<'a>(alloc: Global, path: &[u8]) -> Result<String, AppError<'a>>
+    ensures { IfErr result (λ fault. fault ≡ AppError.Memory) }
 {
     let mut shown = String::new(alloc);
     match path.to_str_lossy_into(&mut shown) {
         Ok(()) => Ok(shown),
-        Err(_) => Err(AppFault::Memory),
+        Err(_) => Err(AppError::Memory),
     }
 }
 
@@ -101,12 +101,12 @@ pub fn read_file<'a, R: Files>(
     rt: &R,
     alloc: Global,
     path: &'a str,
-) -> Result<Vec<u8>, AppFault<'a>>
+) -> Result<Vec<u8>, AppError<'a>>
     ensures { IfErr result (spec.IsUnread path.entry) }
 {
     let file = match fs::open(rt, path) {
         Ok(file) => file,
-        Err(error) => return Err(unread(path, ReadFault::Io(error))),
+        Err(error) => return Err(unread(path, ReadError::Io(error))),
     };
     match read_all(alloc, file, MOST_BYTES) {
         Ok(bytes) => Ok(bytes),
@@ -119,25 +119,25 @@ fn bytes_at<'a, R: Files>(
     rt: &R,
     alloc: Global,
     path: &[u8],
-) -> Result<Option<Vec<u8>>, AppFault<'a>>
-    ensures { IfErr result (λ fault. fault ≡ AppFault.Memory) }
+) -> Result<Option<Vec<u8>>, AppError<'a>>
+    ensures { IfErr result (λ fault. fault ≡ AppError.Memory) }
 {
     let Ok(path) = std::str::from_utf8(path) else {
         return Ok(None);
     };
     match read_file(rt, alloc, path) {
         Ok(bytes) => Ok(Some(bytes)),
-        Err(AppFault::Memory) => Err(AppFault::Memory),
+        Err(AppError::Memory) => Err(AppError::Memory),
         Err(_) => Ok(None),
     }
 }
 
 /// The key seed of a file's bytes.
-pub fn seed_of<'a>(path: &'a str, bytes: &[u8]) -> Result<[u8; 32], AppFault<'a>>
+pub fn seed_of<'a>(path: &'a str, bytes: &[u8]) -> Result<[u8; 32], AppError<'a>>
     ensures { spec.IsSeedOf path.entry bytes.now result }
 {
     if bytes.len() != 32 {
-        return Err(AppFault::File(path));
+        return Err(AppError::File(path));
     }
     let mut seed = [0u8; 32];
     seed.copy_from_slice(bytes);
@@ -145,27 +145,27 @@ pub fn seed_of<'a>(path: &'a str, bytes: &[u8]) -> Result<[u8; 32], AppFault<'a>
 }
 
 /// The settings of a file's text.
-pub fn settings_of<'a>(alloc: Global, text: &[u8]) -> Result<Settings, AppFault<'a>>
+pub fn settings_of<'a>(alloc: Global, text: &[u8]) -> Result<Settings, AppError<'a>>
     ensures { spec.IsSettingsOf (lines text.now) result }
 {
     match read_settings(alloc, text) {
         Ok(settings) => Ok(settings),
-        Err(fault) => Err(AppFault::Ini(fault)),
+        Err(fault) => Err(AppError::Ini(fault)),
     }
 }
 
 /// The users of a file's text.
-pub fn users_of<'a>(alloc: Global, text: &[u8]) -> Result<UserTable, AppFault<'a>>
+pub fn users_of<'a>(alloc: Global, text: &[u8]) -> Result<UserTable, AppError<'a>>
     ensures { spec.IsUsersOf (lines text.now) result }
 {
     match read_users(alloc, text) {
         Ok(users) => Ok(users),
-        Err(fault) => Err(AppFault::Users(fault)),
+        Err(fault) => Err(AppError::Users(fault)),
     }
 }
 
 /// The settings of a file's text, which are within their bounds.
-fn settings_within<'a>(alloc: Global, text: &[u8]) -> Result<Settings, AppFault<'a>>
+fn settings_within<'a>(alloc: Global, text: &[u8]) -> Result<Settings, AppError<'a>>
     ensures bounds { IfOk result (λ settings. AreWithinBounds settings) }
     ensures fault { spec.IsSettingsOf (lines text.now) result }
 {
@@ -176,7 +176,7 @@ fn settings_within<'a>(alloc: Global, text: &[u8]) -> Result<Settings, AppFault<
 }
 
 /// The users in the file at this path.
-fn users_at<'a, R: Files>(rt: &R, alloc: Global, path: &'a str) -> Result<UserTable, AppFault<'a>>
+fn users_at<'a, R: Files>(rt: &R, alloc: Global, path: &'a str) -> Result<UserTable, AppError<'a>>
     ensures { IfErr result (spec.IsUsersFault path.entry) }
 {
     let text = read_file(rt, alloc, path)?;
@@ -200,21 +200,21 @@ fn users_by_settings<'a, R: Files>(
     rt: &R,
     alloc: Global,
     text: &[u8],
-) -> Result<UserTable, AppFault<'a>>
+) -> Result<UserTable, AppError<'a>>
     ensures { IfErr result (spec.IsAuthFileFault (lines text.now)) }
 {
     let Some(path) = auth_file(text) else {
-        return Err(AppFault::NoUserFile);
+        return Err(AppError::NoUserFile);
     };
     let shown = shown_path(alloc, path)?;
     let Ok(path) = std::str::from_utf8(path) else {
-        return Err(AppFault::AuthFile(shown));
+        return Err(AppError::AuthFile(shown));
     };
     match users_at(rt, alloc, path) {
         Ok(users) => Ok(users),
-        Err(AppFault::Users(fault)) => Err(AppFault::Users(fault)),
-        Err(AppFault::File(_)) => Err(AppFault::AuthFile(shown)),
-        Err(_) => Err(AppFault::Memory),
+        Err(AppError::Users(fault)) => Err(AppError::Users(fault)),
+        Err(AppError::File(_)) => Err(AppError::AuthFile(shown)),
+        Err(_) => Err(AppError::Memory),
     }
 }
 
@@ -224,7 +224,7 @@ fn users_named<'a, R: Files>(
     alloc: Global,
     users: Option<&'a str>,
     text: &[u8],
-) -> Result<UserTable, AppFault<'a>>
+) -> Result<UserTable, AppError<'a>>
     ensures { IfErr result (spec.IsUserFileFault users.entry (lines text.now)) }
 {
     match users {
@@ -234,7 +234,7 @@ fn users_named<'a, R: Files>(
 }
 
 /// The key seed in the file at this path.
-fn seed_at<'a, R: Files>(rt: &R, alloc: Global, path: &'a str) -> Result<[u8; 32], AppFault<'a>>
+fn seed_at<'a, R: Files>(rt: &R, alloc: Global, path: &'a str) -> Result<[u8; 32], AppError<'a>>
     ensures { IfErr result (spec.IsUnread path.entry) }
 {
     let bytes = read_file(rt, alloc, path)?;
@@ -242,12 +242,12 @@ fn seed_at<'a, R: Files>(rt: &R, alloc: Global, path: &'a str) -> Result<[u8; 32
 }
 
 /// A key seed that the system makes.
-fn seed_of_system<'a, R: Files>(rt: &R, alloc: Global) -> Result<[u8; 32], AppFault<'a>>
+fn seed_of_system<'a, R: Files>(rt: &R, alloc: Global) -> Result<[u8; 32], AppError<'a>>
     ensures { IfErr result spec.IsSystemFault }
 {
     let file = match fs::open(rt, SYSTEM_SEED) {
         Ok(file) => file,
-        Err(error) => return Err(unread(SYSTEM_SEED, ReadFault::Io(error))),
+        Err(error) => return Err(unread(SYSTEM_SEED, ReadError::Io(error))),
     };
     match read_all(alloc, file.take(32), 32) {
         Ok(bytes) => seed_of(SYSTEM_SEED, bytes.as_slice()),
@@ -260,7 +260,7 @@ fn seed_named<'a, R: Files>(
     rt: &R,
     alloc: Global,
     path: Option<&'a str>,
-) -> Result<[u8; 32], AppFault<'a>>
+) -> Result<[u8; 32], AppError<'a>>
     ensures { IfErr result (spec.IsSeedFault path.entry) }
 {
     match path {
@@ -278,7 +278,7 @@ pub fn read_inputs<'a, R: Files>(
     ini: &'a str,
     users: Option<&'a str>,
     key_seed: Option<&'a str>,
-) -> Result<Inputs, AppFault<'a>>
+) -> Result<Inputs, AppError<'a>>
     ensures bounds { IfOk result (λ inputs. AreWithinBounds inputs.settings) }
     ensures fault { IfErr result (spec.IsInputsFault ini.entry users.entry key_seed.entry) }
 {
@@ -302,7 +302,7 @@ pub fn read_again<'a, R: Files>(
     alloc: Global,
     ini: &'a str,
     users: Option<&'a str>,
-) -> Result<(Settings, UserTable), AppFault<'a>>
+) -> Result<(Settings, UserTable), AppError<'a>>
     ensures bounds { IfOk result (λ read. AreWithinBounds read.0) }
     ensures fault { IfErr result (spec.IsAgainFault ini.entry users.entry) }
 {
@@ -319,12 +319,12 @@ fn reported<'a>(
     text: &[u8],
     users: UserFile<'_>,
     uses_auth_file: bool,
-) -> Result<Report, AppFault<'a>>
-    ensures { IfErr result (λ fault. fault ≡ AppFault.Memory) }
+) -> Result<Report, AppError<'a>>
+    ensures { IfErr result (λ fault. fault ≡ AppError.Memory) }
 {
     match report_on(alloc, ini.as_bytes(), text, users, uses_auth_file) {
         Ok(report) => Ok(report),
-        Err(_) => Err(AppFault::Memory),
+        Err(_) => Err(AppError::Memory),
     }
 }
 
@@ -336,8 +336,8 @@ fn report_with<'a, R: Files>(
     text: &[u8],
     path: &[u8],
     uses_auth_file: bool,
-) -> Result<Report, AppFault<'a>>
-    ensures { IfErr result (λ fault. fault ≡ AppFault.Memory) }
+) -> Result<Report, AppError<'a>>
+    ensures { IfErr result (λ fault. fault ≡ AppError.Memory) }
 {
     match bytes_at(rt, alloc, path)? {
         Some(users) => {
@@ -355,7 +355,7 @@ pub fn check<'a, R: Files>(
     alloc: Global,
     ini: &'a str,
     users: Option<&'a str>,
-) -> Result<Report, AppFault<'a>>
+) -> Result<Report, AppError<'a>>
     ensures { IfErr result (spec.IsUnread ini.entry) }
 {
     let text = read_file(rt, alloc, ini)?;
@@ -369,12 +369,12 @@ pub fn check<'a, R: Files>(
 }
 
 /// The catalogue of a file's text.
-pub fn catalogue_of<'a>(alloc: Global, text: &[u8]) -> Result<Catalogue, AppFault<'a>>
+pub fn catalogue_of<'a>(alloc: Global, text: &[u8]) -> Result<Catalogue, AppError<'a>>
     ensures { spec.IsCatalogueOf (raw_lines text.now) result }
 {
     match Catalogue::read(alloc, text) {
         Ok(catalogue) => Ok(catalogue),
-        Err(fault) => Err(AppFault::Catalogue(fault)),
+        Err(fault) => Err(AppError::Catalogue(fault)),
     }
 }
 
@@ -383,7 +383,7 @@ pub fn read_catalogue<'a, R: Files>(
     rt: &R,
     alloc: Global,
     path: &'a str,
-) -> Result<Catalogue, AppFault<'a>>
+) -> Result<Catalogue, AppError<'a>>
     ensures { IfErr result (spec.IsCatalogueFault path.entry) }
 {
     let text = read_file(rt, alloc, path)?;

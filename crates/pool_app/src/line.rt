@@ -47,36 +47,36 @@ pub enum Job<'a> {
 
 /// A command line that asks for no job: for help or the version, or a faulty one.
 #[derive(Drop)]
-pub enum LineFault {
+pub enum LineError {
     /// What clap says: help, the version, a fault of the words, or that an allocation failed.
     Refused(Error),
     /// Words that clap accepts and that name no job.
     NoJob,
 }
 
-impl LineFault {
+impl LineError {
     /// The status that the program ends with: 0 after help and the version, 1 where an allocation failed, 2 for every other fault.
     pub fn status(&self) -> u8
         ensures { result ≡ spec.status self.now }
     {
         match self {
-            LineFault::Refused(error) => match error.kind() {
+            LineError::Refused(error) => match error.kind() {
                 ErrorKind::DisplayHelp | ErrorKind::DisplayVersion => 0,
                 ErrorKind::OutOfMemory => 1,
                 _ => 2,
             },
-            LineFault::NoJob => 2,
+            LineError::NoJob => 2,
         }
     }
 
     /// Prints help and the version on standard output, and every fault on standard error.
     pub fn print<R: Print + Eprint>(&self, rt: &R) -> io::Result<()> {
         match self {
-            LineFault::Refused(error) => match error.kind() {
+            LineError::Refused(error) => match error.kind() {
                 ErrorKind::OutOfMemory => eprintln!(rt; "pgsess: memory"),
                 _ => error.print(rt),
             },
-            LineFault::NoJob => eprintln!(rt; "pgsess: no job"),
+            LineError::NoJob => eprintln!(rt; "pgsess: no job"),
         }
     }
 }
@@ -310,15 +310,15 @@ fn job_of<'a>(matches: &ArgMatches<'a>) -> Option<Job<'a>>
 }
 
 /// The job that the words name, the first of which is the program's own name.
-pub fn read_line<'a>(alloc: Global, words: &'a [String]) -> Result<Job<'a>, LineFault>
+pub fn read_line<'a>(alloc: Global, words: &'a [String]) -> Result<Job<'a>, LineError>
     ensures job { IfOk result (λ job. spec.IsJobOf (subcommand_of spec.pgsess (map string_bytes words.entry.now)) job) }
     ensures refused { IfErr result (λ fault. spec.IsFaultOf (map string_bytes words.entry.now) fault) }
 {
     match matches_of_line(alloc, words) {
         Ok(matches) => match job_of(&matches) {
             Some(job) => Ok(job),
-            None => Err(LineFault::NoJob),
+            None => Err(LineError::NoJob),
         },
-        Err(error) => Err(LineFault::Refused(error)),
+        Err(error) => Err(LineError::Refused(error)),
     }
 }

@@ -24,23 +24,23 @@ use user_file::{UserTable, Users};
 
 /// Why files aren't read again.
 #[derive(Drop)]
-pub enum Unread {
+pub enum ReloadError {
     /// A file's fault, as the log tells it.
     Fault(String),
     /// No memory was left.
     Memory,
 }
 
-impl From<AllocError> for Unread {
-    fn from(_error: AllocError) -> Unread {
-        Unread::Memory
+impl From<AllocError> for ReloadError {
+    fn from(_error: AllocError) -> ReloadError {
+        ReloadError::Memory
     }
 }
 
 /// Where the files of settings and users are.
 pub trait Source: Drop {
     /// What both say now: settings within their bounds, and users.
-    fn read(&self) -> Result<(Settings, UserTable), Unread>
+    fn read(&self) -> Result<(Settings, UserTable), ReloadError>
         ensures { IfOk result (λ read. AreWithinBounds read.0) };
 
     /// The pool is about to listen no more.
@@ -287,7 +287,7 @@ impl<R: Wait, F: Source> Keeper<R, F> {
 
     /// Reads the files again. What was derived of a password is kept where it is still the user's. The error is that a file has a fault, or
     /// that an allocation failed.
-    fn read(&self) -> Result<Reread, Unread>
+    fn read(&self) -> Result<Reread, ReloadError>
         ensures { IfOk result (λ r. arc_value r.limits ≡ limits_in r.kept.settings) }
     {
         let (settings, table) = self.source.read()?;
@@ -315,7 +315,7 @@ impl<R: Wait, F: Source> Keeper<R, F> {
 
     /// Reads the files again, once nothing is unsettled that was read before; the limits of the settings. Where they can't be read nothing
     /// is unsettled.
-    fn read_in_turn(&self) -> Result<Arc<Limits>, Unread> {
+    fn read_in_turn(&self) -> Result<Arc<Limits>, ReloadError> {
         let mut unsettled = self.wait_settled();
         let Reread { limits, kept } = self.read()?;
         *unsettled = Some(kept);
@@ -399,11 +399,11 @@ impl<R: Wait + Clock, F: Source> Keeper<R, F> {
     pub fn reload(&self, log: &PoolLog<R>) -> Option<Arc<Limits>> {
         match self.read_in_turn() {
             Ok(limits) => Some(limits),
-            Err(Unread::Fault(fault)) => {
+            Err(ReloadError::Fault(fault)) => {
                 log.not_reloaded(fault.as_bytes());
                 None
             }
-            Err(Unread::Memory) => {
+            Err(ReloadError::Memory) => {
                 log.not_reloaded(b"memory");
                 None
             }

@@ -2,8 +2,8 @@
 use Rattle.std.proofs.Common.{◌≡◌, inl, inr, ℕ, ◌+◌, ◌≤◌, Bool, true, false, cond, List, [], ◌++◌, refl, sym, ap, ◌∙◌, arith, append-nil, subst, Option, Some, None}
 use Rattle.std.specs.Prelude.{IfSome, ◌==◌}
 use Rattle.std.proofs.lemmas.Bool.{true≢false}
-use Rattle.frame_view.specs.declared.FrameFault.{FrameFault}
-use Rattle.frame_view.specs.declared.FrameFault.TheVariants.{TooShort, TooLong, UnknownType, UnknownCode}
+use Rattle.frame_view.specs.declared.FrameError.{FrameError}
+use Rattle.frame_view.specs.declared.FrameError.TheVariants.{TooShort, TooLong, UnknownType, UnknownCode}
 use Rattle.message_view.specs.declared.refusal.Refusal.{Refusal}
 use Rattle.message_view.specs.declared.refusal.Refusal.TheVariants.{TooManyClients, UnsupportedProtocol, MalformedClientMessage, UnsupportedParameter, WaitedTooLong, ServerFailed, ServerNotReached, ShuttingDown, OutOfMemory, ClientMessageTooLong, MalformedServerMessage, LastDecision}
 use Rattle.relay_flow.specs.declared.flow.Ends.{Ends}
@@ -290,7 +290,7 @@ both : (Q : Next → Type 0) (b : Bool) (x y : Next) → Q x → Q y → Q (cond
 both Q true x y p q = p
 both Q false x y p q = q
 
-fault_relays : (f : FrameFault) → IsRelays (refusal_by f)
+fault_relays : (f : FrameError) → IsRelays (refusal_by f)
 fault_relays TooShort = tt
 fault_relays TooLong = tt
 fault_relays UnknownType = tt
@@ -381,7 +381,7 @@ module _ (p q : PassOf) where
   word_traces home v after (ending.Relayed r) o c h = relayed_word r (subst (λ (o : Option Refusal). IfSome o IsRelays) (sym c.lease.relayed.told) (judged_relays c.lease.relayed.view)) h
 
 -- what was relayed, at fault
-faulty_by : (limit : ℕ) (bytes : List ℕ) (f : FrameFault) → IsAtFault limit bytes (refusal_by f) → IsFaulty limit bytes (refusal_by f)
+faulty_by : (limit : ℕ) (bytes : List ℕ) (f : FrameError) → IsAtFault limit bytes (refusal_by f) → IsFaulty limit bytes (refusal_by f)
 faulty_by limit bytes TooShort x = x
 faulty_by limit bytes TooLong x = x
 faulty_by limit bytes UnknownType x = x

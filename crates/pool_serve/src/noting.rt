@@ -10,7 +10,7 @@ use link_run::links::CleanLink;
 use link_start::start::StartCause;
 use log_lines::lines::{ends_session, sqlstate};
 use log_lines::notes::{Client, LoginFailure, Loss, Note, Server, Unstarted, Visit};
-use login_core::Failure;
+use login_core::LoginRefusal;
 use login_run::{LoginReply, LoginRun};
 use message_view::Refusal;
 use relay_core::last_note::LastNote;
@@ -71,10 +71,10 @@ fn login_note<C: ClientEnd>(run: &LoginRun<C>) -> Option<Note<'_>> {
             Note::UnsupportedParameter(name),
         ),
         (LoginReply::Refusal(refusal), _) => Some(Note::Refused(*refusal)),
-        (LoginReply::Failure(Failure::WrongPassword), _) => Some(Note::LoginFailed(login_failure(
+        (LoginReply::Failure(LoginRefusal::WrongPassword), _) => Some(Note::LoginFailed(login_failure(
             run,
         ))),
-        (LoginReply::Failure(Failure::NoDatabase), _) => Some(Note::NoDatabase),
+        (LoginReply::Failure(LoginRefusal::NoDatabase), _) => Some(Note::NoDatabase),
         (
             LoginReply::Nothing
             | LoginReply::Question(_)

@@ -13,7 +13,7 @@ use disposal::Verdict;
 use link_desk::answers::Release;
 use link_desk::desk::LinkDesk;
 use link_run::links::{CleanLink, UsedLink};
-use link_run::reset::{Disposed, ResetFault, reset_link};
+use link_run::reset::{Disposed, ResetError, reset_link};
 use link_start::close::{close_link, offer_terminate};
 use log_lines::notes::{Loss, Note};
 use relay_core::last_note::LastNote;
@@ -38,9 +38,9 @@ fn is_at_border(cause: GoneCause) -> bool {
 fn has_ended<E: ServerEnd, G: Gate<E>>(disposed: Disposed<E>, gate: &mut G) -> bool {
     let Disposed { mut end, cause } = disposed;
     match cause {
-        ResetFault::Lost => return true,
-        ResetFault::Unexpected => {}
-        ResetFault::Changed | ResetFault::Memory | ResetFault::Turns => return false,
+        ResetError::Lost => return true,
+        ResetError::Unexpected => {}
+        ResetError::Changed | ResetError::Memory | ResetError::Turns => return false,
     }
     let mut rest = [0u8; REST];
     for _ in 0..ENDING_TURNS {

@@ -4,7 +4,7 @@ ghost use Rattle.relay_flow.specs.Flows.{is_empty};
 ghost use Rattle.relay_laws.specs.Answers.{border_next, is_done, is_quiet, judged, moved_or, phase_after as after, quiet_next, refusal_of};
 
 use crate::relay::Relay;
-use frame_view::FrameFault;
+use frame_view::FrameError;
 use message_view::Refusal;
 use relay_flow::flow::Ends;
 use relay_laws::{Next, Phase};
@@ -23,7 +23,7 @@ fn refusal_of(ends: Ends) -> Option<Refusal>
 {
     match ends {
         Ends::Open | Ends::Last => None,
-        Ends::Faulty(FrameFault::TooLong) => Some(Refusal::ClientMessageTooLong),
+        Ends::Faulty(FrameError::TooLong) => Some(Refusal::ClientMessageTooLong),
         Ends::Faulty(_) => Some(Refusal::MalformedClientMessage),
     }
 }

@@ -5,7 +5,7 @@ use Rattle.std.specs.Int.{w32, to_be_bytes}
 use Rattle.std.proofs.lemmas.Bool.{true≢false, eqb-true, leb-true, leb-false, ltb-false, lt-ltb, le-ltb}
 use Rattle.frame_view.specs.declared.Side.{Side}
 use Rattle.frame_view.specs.declared.Side.TheVariants.{Server}
-use Rattle.frame_view.specs.declared.FrameFault.TheVariants.{UnknownType, TooShort, TooLong}
+use Rattle.frame_view.specs.declared.FrameError.TheVariants.{UnknownType, TooShort, TooLong}
 use Rattle.frame_view.specs.Frames.{AreBytes, FrameOf, is_type, Front, front, with_body, at_head, head_fault, number, Stops}
 use Rattle.frame_view.proofs.FourBytes.{bytes-number, number-bytes}
 use Rattle.frame_view.specs.declared.server.TheConstants.{READY_FOR_QUERY, PARAMETER_STATUS}

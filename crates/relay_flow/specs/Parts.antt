@@ -3,7 +3,7 @@ use Rattle.std.specs.Prelude.{◌≡◌, ℕ, ◌+◌, ◌<◌, ◌≤◌, Bool,
 use Rattle.std.specs.Int.{w32, to_be_bytes}
 use Rattle.frame_view.specs.declared.Side.{Side}
 use Rattle.frame_view.specs.declared.Side.TheVariants.{Client, Server}
-use Rattle.frame_view.specs.declared.FrameFault.{FrameFault}
+use Rattle.frame_view.specs.declared.FrameError.{FrameError}
 use Rattle.frame_view.specs.declared.server.TheConstants.{PARAMETER_STATUS, READY_FOR_QUERY}
 use Rattle.frame_view.specs.Frames.{FrameOf, IsFrame, is_type, spelling, Front, AFrame, Lacks, Faulty, front}
 use Rattle.relay_flow.specs.declared.parts.Advance.{Advance}
@@ -71,7 +71,7 @@ is_stuck side (AFrame k body rest) bytes = false
 is_stuck side (Faulty f) bytes = false
 
 -- how the answer goes on from a border
-abbrev pub GoesOn : Side → ℕ → List ℕ → ℕ → Result (Option Advance) FrameFault → Type 0
+abbrev pub GoesOn : Side → ℕ → List ℕ → ℕ → Result (Option Advance) FrameError → Type 0
 GoesOn side limit part kind (Ok (Some a)) = Advances side limit part kind 0 a
 GoesOn side limit part kind (Ok None) = is_stuck side (front side limit part) part ≡ true
 GoesOn side limit part kind (Err fault) = front side limit part ≡ Faulty fault

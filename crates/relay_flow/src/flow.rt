@@ -21,7 +21,7 @@ use crate::buffers::Buffer;
 use crate::parts::{Advance, body_next, head_next};
 use frame_view::client::TERMINATE;
 use frame_view::laws::are_bytes;
-use frame_view::{FrameFault, Side};
+use frame_view::{FrameError, Side};
 use server_end::{ClientEnd, Moved, ServerEnd};
 use std::marker::Model;
 
@@ -36,7 +36,7 @@ pub enum Ends {
     /// The client's Terminate, which doesn't go on, nor does what follows it.
     Last,
     /// No lawful frame.
-    Faulty(FrameFault),
+    Faulty(FrameError),
 }
 
 /// One direction. Contracts see of it the bytes that are held and may go on, the part behind them that may
@@ -104,7 +104,7 @@ enum Ahead {
     Goes(Advance),
     Waits,
     Last,
-    Faulty(FrameFault),
+    Faulty(FrameError),
 }
 
 /// Whether a frame of this type ends what goes on.

@@ -13,7 +13,7 @@ ghost use Rattle.relay_flow.specs.Parts.{goes_whole, status_in, is_foreign, is_f
 use byteorder::{BigEndian, ByteOrder};
 use frame_view::laws::are_bytes;
 use frame_view::server::{PARAMETER_STATUS, READY_FOR_QUERY};
-use frame_view::{FrameFault, Head, Side, head_fault};
+use frame_view::{FrameError, Head, Side, head_fault};
 
 /// How far a cursor goes: over `count` bytes of one frame.
 #[derive(Clone, Copy, Drop)]
@@ -122,7 +122,7 @@ pub fn head_next(
     kind: u8,
     side: Side,
     limit: u32,
-) -> Result<Option<Advance>, FrameFault>
+) -> Result<Option<Advance>, FrameError>
     requires { 4 ≤ limit }
     ensures { GoesOn side limit part.now kind result }
 {

@@ -1,7 +1,7 @@
 -- A refusal of a client's message is that of its fault.
 use Rattle.std.proofs.Common.{◌≡◌, ℕ, true, List, ◌++◌, refl, sym, ap, ap₂, ◌∙◌, append_assoc, subst, Some}
 use Rattle.std.specs.List.{flat_map, AllByRecursion}
-use Rattle.frame_view.specs.declared.FrameFault.{FrameFault}
+use Rattle.frame_view.specs.declared.FrameError.{FrameError}
 use Rattle.frame_view.specs.declared.Side.{Side}
 use Rattle.frame_view.specs.declared.Side.TheVariants.{Client}
 use Rattle.frame_view.specs.Frames.{front, spelling}
@@ -18,7 +18,7 @@ use Rattle.relay_laws.specs.Faults.{IsAtFault}
 
 -- at a border, before what is no message
 pub record StopsAt (side : Side) (limit : ℕ) (part : List ℕ) (rest : ℕ) : Type 0 where
-  pub fault : FrameFault
+  pub fault : FrameError
   pub border : rest ≡ 0
   pub stops : front side limit part ≡ frames.Faulty fault
 
@@ -32,7 +32,7 @@ client_stops (Faulty fault) side limit part rest r e x = (record { fault = fault
 
 -- whatever comes behind what was taken since the lease's place
 pub client_fault : (p : Place) (v : RelayView) (took more : List ℕ) (r : Refusal) → IsLease p v → v.client.tells ≡ true → v.client.taken ≡ p.taken ++ took → refusal_of v.to_link.ends ≡ Some r
-    → (fault : FrameFault) × (r ≡ refusal_by fault) × IsAtFault p.limit (took ++ more) (refusal_by fault)
+    → (fault : FrameError) × (r ≡ refusal_by fault) × IsAtFault p.limit (took ++ more) (refusal_by fault)
 client_fault p v took more r x t n e =
     let s = client_stops v.to_link.ends v.to_link.side v.to_link.limit v.to_link.part v.to_link.rest r e x.goes.flow.ended in
     let f : List ℕ = flat_map spelling x.forwarded in

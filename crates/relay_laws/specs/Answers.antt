@@ -1,8 +1,8 @@
 -- What a pump answers, and what that says of the lease.
 use Rattle.std.specs.Prelude.{◌≡◌, ◌⊎◌, ◌<◌, Bool, true, cond, ◌&&◌, ◌||◌, ◌==◌, [], ◌++◌, List, ℕ, Option, Some, None}
 use Rattle.std.specs.List.{flat_map, AllByRecursion}
-use Rattle.frame_view.specs.declared.FrameFault.{FrameFault}
-use Rattle.frame_view.specs.declared.FrameFault.TheVariants.{TooShort, TooLong, UnknownType, UnknownCode}
+use Rattle.frame_view.specs.declared.FrameError.{FrameError}
+use Rattle.frame_view.specs.declared.FrameError.TheVariants.{TooShort, TooLong, UnknownType, UnknownCode}
 use Rattle.frame_view.specs.declared.Side.TheVariants.{Server}
 use Rattle.frame_view.specs.declared.frames.TheConstants.{LONGEST_FRAME}
 use Rattle.frame_view.specs.Frames.{FrameOf, IsFrame, spelling}
@@ -17,7 +17,7 @@ use Rattle.relay_laws.specs.Leases.{RelayView, Place, IsClientOver, IsLinkOver}
 use Rattle.relay_laws.specs.declared.Next.{Next}
 use Rattle.relay_laws.specs.declared.Next.TheVariants.{Again, Wait, ClientDone, Refuse, Closed}
 
-abbrev pub refusal_by : FrameFault → Refusal
+abbrev pub refusal_by : FrameError → Refusal
 refusal_by TooShort = MalformedClientMessage
 refusal_by TooLong = ClientMessageTooLong
 refusal_by UnknownType = MalformedClientMessage

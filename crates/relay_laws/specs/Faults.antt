@@ -1,7 +1,7 @@
 -- Where a client's bytes are faulty.
 use Rattle.std.specs.Prelude.{◌≡◌, ℕ, List, ◌++◌}
 use Rattle.std.specs.List.{flat_map, AllByRecursion}
-use Rattle.frame_view.specs.declared.FrameFault.{FrameFault}
+use Rattle.frame_view.specs.declared.FrameError.{FrameError}
 use Rattle.frame_view.specs.declared.Side.TheVariants.{Client}
 use Rattle.frame_view.specs.Frames.{FrameOf, Faulty, front, spelling}
 use Rattle.message_view.specs.declared.refusal.Refusal.{Refusal}
@@ -13,7 +13,7 @@ use Rattle.relay_laws.specs.Answers.{refusal_by}
 pub record IsAtFault (limit : ℕ) (bytes : List ℕ) (r : Refusal) : Type 0 where
   pub before : List FrameOf
   pub rest : List ℕ
-  pub fault : FrameFault
+  pub fault : FrameError
   pub went : AllByRecursion (IsForwarded limit) before
   pub whole : bytes ≡ flat_map spelling before ++ rest
   pub stops : front Client limit rest ≡ Faulty fault

@@ -11,7 +11,7 @@ ghost use Rattle.login_core.specs.Logins.{AwaitsPacket, after, authenticated_byt
 ghost use Rattle.login_core.specs.Solo.{service_pieces};
 ghost use Rattle.login_core.specs.Talk.End.{Passed};
 ghost use Rattle.memory_lease.specs.Answers.{IsAnswer};
-ghost use Rattle.pool_app.specs.declared.fault.AppFault.TheVariants as told;
+ghost use Rattle.pool_app.specs.declared.fault.AppError.TheVariants as told;
 ghost use Rattle.replay_run.specs.Replay.{IsLeft, IsReply, WritesReply, standing_catalogue, standing_settings, standing_users, standing_word};
 ghost use Rattle.replay_run.specs.Told.{Adds, IsKeyed, IsPastArrival, Says, WantsMemory, HasLinkKey, is_end, silence};
 
@@ -24,8 +24,8 @@ use login_laws::laws::{passed_keys_are_link_keys, settings_rows_are_lawful};
 use memory_ends::memory_server::{MemoryServer, ServerAuth};
 use memory_lease::alone::{ServeError, serve_alone};
 use message_view::{KeyWord, Refusal, refusal_bytes};
-use pool_app::fault::AppFault;
-use pool_app::files::{MOST_BYTES, ReadFault, read_all};
+use pool_app::fault::AppError;
+use pool_app::files::{MOST_BYTES, ReadError, read_all};
 use session_catalogue::Catalogue;
 use session_machine::solo_bytes;
 use start_keys::StartKey;
@@ -283,12 +283,12 @@ pub fn replies(
 }
 
 /// The fault of standard input.
-fn unread<'a>(fault: ReadFault) -> AppFault<'a>
+fn unread<'a>(fault: ReadError) -> AppError<'a>
     ensures { (result ≡ told.Stdin) ⊎ (result ≡ told.Memory) }
 {
     match fault {
-        ReadFault::Io(error) if error.kind() == ErrorKind::OutOfMemory => AppFault::Memory,
-        _ => AppFault::Stdin,
+        ReadError::Io(error) if error.kind() == ErrorKind::OutOfMemory => AppError::Memory,
+        _ => AppError::Stdin,
     }
 }
 
@@ -300,7 +300,7 @@ pub fn replay<'a, R: Read + Drop, W: Write>(
     alloc: Global,
     input: R,
     output: &mut W,
-) -> Result<(), AppFault<'a>>
+) -> Result<(), AppError<'a>>
     ensures replies { OnOk result (IfSome (R.remaining input) (λ xs. WritesReply (W.contents output.old) (W.contents output.new) xs)) }
     ensures bound { IfOk result (λ _. IfSome (R.remaining input) (λ xs. length xs ≤ 16777216)) }
     ensures left { IfErr result (λ fault. IsLeft output.old output.new fault) }
@@ -310,10 +310,10 @@ pub fn replay<'a, R: Read + Drop, W: Write>(
         Err(fault) => return Err(unread(fault)),
     };
     let Ok(answer) = replies(alloc, CUT, None, Unended::BySession, bytes.as_slice()) else {
-        return Err(AppFault::Memory);
+        return Err(AppError::Memory);
     };
     if output.write_all(answer.as_slice()).is_err() || output.flush().is_err() {
-        return Err(AppFault::Stdout);
+        return Err(AppError::Stdout);
     }
     Ok(())
 }

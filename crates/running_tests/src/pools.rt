@@ -6,7 +6,7 @@ use crate::pairs::{HERE, listen_for_clients};
 use ini_config::laws::read_settings_are_within_bounds;
 use ini_config::{Settings, read_settings};
 use log_lines::events::Totals;
-use pool_run::keeping::{Source, Unread};
+use pool_run::keeping::{Source, ReloadError};
 use pool_run::listening::Listening;
 use pool_run::pool::serve_on;
 use session_catalogue::Catalogue;
@@ -120,16 +120,16 @@ pub fn nowhere_else(alloc: Global, port: u16) -> Elsewhere {
 }
 
 impl Source for Elsewhere {
-    fn read(&self) -> Result<(Settings, UserTable), Unread> {
+    fn read(&self) -> Result<(Settings, UserTable), ReloadError> {
         if !self.was_asked.swap(true, Ordering::SeqCst) {
-            return Err(Unread::Memory);
+            return Err(ReloadError::Memory);
         }
         let Some(settings) = settings(self.alloc, self.port, self.options) else {
-            return Err(Unread::Memory);
+            return Err(ReloadError::Memory);
         };
         match users(self.alloc) {
             Some(users) => Ok((settings, users)),
-            None => Err(Unread::Memory),
+            None => Err(ReloadError::Memory),
         }
     }
 }

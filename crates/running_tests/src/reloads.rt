@@ -4,7 +4,7 @@ use crate::pools::{Elsewhere, settings, users};
 use ini_config::Settings;
 use link_desk::answers::Changed;
 use log_writer::log::{LogThread, begin};
-use pool_run::keeping::{Keeper, Source, Unread};
+use pool_run::keeping::{Keeper, Source, ReloadError};
 use pool_run::log::PoolLog;
 use std::alloc::Global;
 use std::rt::Clock;
@@ -36,9 +36,9 @@ impl Drop for Files {
 }
 
 impl Source for Files {
-    fn read(&self) -> Result<(Settings, UserTable), Unread> {
+    fn read(&self) -> Result<(Settings, UserTable), ReloadError> {
         if self.readings.fetch_add(1, Ordering::SeqCst) == self.vain {
-            return Err(Unread::Memory);
+            return Err(ReloadError::Memory);
         }
         self.elsewhere.read()
     }

@@ -6,7 +6,7 @@ use Rattle.text_lines.specs.Files.{Took, or_later}
 use Rattle.mini_sql.specs.Words.{Text}
 use Rattle.session_catalogue.specs.declared.catalogue_fault.CatalogueCause.{CatalogueCause}
 use Rattle.session_catalogue.specs.declared.catalogue_fault.CatalogueCause.TheVariants.{Memory}
-use Rattle.session_catalogue.specs.declared.catalogue_fault.CatalogueFault.{CatalogueFault}
+use Rattle.session_catalogue.specs.declared.catalogue_fault.CatalogueError.{CatalogueError}
 use Rattle.session_values.specs.State.{CatalogueOf}
 use Rattle.session_catalogue.specs.Catalogues.{PartsOf, Said, said, parts, fault_of, first_fault, IsFaultless, judged, IsReadOf}
 use Rattle.session_catalogue.specs.Drafts.{with_said, IsWholeOf}
@@ -118,7 +118,7 @@ not_empty [] p same is = let none = ap (λ q. is_some q.version) same in absurd 
 not_empty (line ∷ all) p same is = omega arith
 
 -- the end of a file without a faulty line
-pub ended : (all : List Text) (n : ℕ) (p : PartsOf) (r : Result CatalogueOf CatalogueFault) → ReadUpTo all n [] p → IsWholeOf p n r → IsReadOf all r
+pub ended : (all : List Text) (n : ℕ) (p : PartsOf) (r : Result CatalogueOf CatalogueError) → ReadUpTo all n [] p → IsWholeOf p n r → IsReadOf all r
 ended all n p (Ok c) so_far is =
     let end = at_end all n p so_far in
     ap (λ f. judged f (parts (map said all))) end.1 ∙ ap (judged None) (sym end.2) ∙ is

@@ -8,7 +8,7 @@ use Rattle.text_lines.specs.Files.{or_later}
 use Rattle.mini_sql.specs.Words.{Text, same_text}
 use Rattle.session_catalogue.specs.declared.catalogue_fault.CatalogueCause.{CatalogueCause}
 use Rattle.session_catalogue.specs.declared.catalogue_fault.CatalogueCause.TheVariants.{WrongNumberOfValues}
-use Rattle.session_catalogue.specs.declared.catalogue_fault.CatalogueFault.{CatalogueFault}
+use Rattle.session_catalogue.specs.declared.catalogue_fault.CatalogueError.{CatalogueError}
 use Rattle.session_values.specs.State.{CatalogueOf, TableOf, Row}
 use Rattle.session_values.specs.Lawful.{IsLawfulCatalogue, IsLawfulTable, IsValue, IsShort}
 use Rattle.session_catalogue.specs.Catalogues.{PartsOf, Said, SaysNothing, SaysVersion, SaysDatabase, SaysTable, SaysRow, Unreadable, IsReadOf, said, parts, fault_of, first_fault, whole, judged, is_not_zero, is_version, is_value, is_lower_name, is_in_lower_name, starts_lower_name, are_columns, value_of, fields, fields_said, version_said, database_said, table_said, row_said, row_fault, last_of}
@@ -176,6 +176,6 @@ judged-lawful : (f : Option (CatalogueCause × ℕ)) (p : PartsOf) (c : Catalogu
 judged-lawful (Some f) p c good is = absurd (cc)
 judged-lawful None p c good is = let are = good refl in whole-lawful p.version p.databases p.tables c are.version are.tables is
 
-pub read_is_lawful : (all : List Text) (r : Result CatalogueOf CatalogueFault) → IsReadOf all r → IfOk r (λ c. IsLawfulCatalogue c)
+pub read_is_lawful : (all : List Text) (r : Result CatalogueOf CatalogueError) → IsReadOf all r → IfOk r (λ c. IsLawfulCatalogue c)
 read_is_lawful all (Ok c) is = judged-lawful (first_fault [] (map said all)) (parts (map said all)) c (λ none. all-add [] (map said all) (all-good all) none no-lines) is
 read_is_lawful all (Err f) is = tt

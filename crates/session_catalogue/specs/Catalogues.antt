@@ -7,7 +7,7 @@ use Rattle.session_values.specs.Runs.{are_distinct}
 use Rattle.session_values.specs.State.{CatalogueOf, TableOf, Row, table_name, has_text}
 use Rattle.session_catalogue.specs.declared.catalogue_fault.CatalogueCause.{CatalogueCause}
 use Rattle.session_catalogue.specs.declared.catalogue_fault.CatalogueCause.TheVariants.{NotALine, NameTwice, WrongNumberOfValues, Memory}
-use Rattle.session_catalogue.specs.declared.catalogue_fault.CatalogueFault.{CatalogueFault}
+use Rattle.session_catalogue.specs.declared.catalogue_fault.CatalogueError.{CatalogueError}
 
 -- ---- one line
 
@@ -170,7 +170,7 @@ abbrev pub catalogue_of : List Text → Result CatalogueOf (CatalogueCause × �
 catalogue_of lines = judged (first_fault [] (map said lines)) (parts (map said lines))
 
 -- what reading answers; memory may be wanting at a line of the file, up to which there is no fault
-abbrev pub IsReadOf : List Text → Result CatalogueOf CatalogueFault → Type 0
+abbrev pub IsReadOf : List Text → Result CatalogueOf CatalogueError → Type 0
 IsReadOf lines (Ok c) = catalogue_of lines ≡ Ok c
 IsReadOf lines (Err f) =
     (catalogue_of lines ≡ Err (f.cause, f.line)) ⊎ ((f.cause ≡ Memory) × (1 ≤ f.line) × (f.line ≤ length lines) × IsFaultless (take f.line lines))

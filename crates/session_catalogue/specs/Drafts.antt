@@ -3,7 +3,7 @@ use Rattle.std.specs.Prelude.{◌≡◌, ◌⊎◌, ℕ, List, [], ◌∷◌, �
 use Rattle.session_values.specs.State.{CatalogueOf, TableOf, Row}
 use Rattle.session_catalogue.specs.Catalogues.{PartsOf, Said, SaysNothing, SaysVersion, SaysDatabase, SaysTable, SaysRow, Unreadable, whole}
 use Rattle.session_catalogue.specs.declared.catalogue_fault.CatalogueCause.TheVariants.{Memory}
-use Rattle.session_catalogue.specs.declared.catalogue_fault.CatalogueFault.{CatalogueFault}
+use Rattle.session_catalogue.specs.declared.catalogue_fault.CatalogueError.{CatalogueError}
 
 abbrev pub with_row : TableOf → Row → TableOf
 with_row t vs = record t { rows = t.rows ++ vs ∷ [] }
@@ -23,6 +23,6 @@ with_said p (SaysRow vs) = record p { untouched = false; tables = with_last_row 
 with_said p Unreadable = p
 
 -- what the end of the file answers after so many lines; memory may be wanting where there is a version
-abbrev pub IsWholeOf : PartsOf → ℕ → Result CatalogueOf CatalogueFault → Type 0
+abbrev pub IsWholeOf : PartsOf → ℕ → Result CatalogueOf CatalogueError → Type 0
 IsWholeOf p n (Ok c) = whole p.version p.databases p.tables ≡ Ok c
 IsWholeOf p n (Err f) = (whole p.version p.databases p.tables ≡ Err (f.cause, f.line)) ⊎ ((f.cause ≡ Memory) × (f.line ≡ n) × (is_some p.version ≡ true))

@@ -6,7 +6,7 @@ ghost use Rattle.session_catalogue.specs.Catalogues.{IsReadOf};
 ghost use Rattle.session_values.specs.Lawful.{IsLawfulCatalogue};
 
 use crate::catalogue_draft::Draft;
-use crate::catalogue_fault::CatalogueFault;
+use crate::catalogue_fault::CatalogueError;
 use bstr::ByteSlice;
 use session_values::table::Table;
 use session_values::text::Text;
@@ -59,7 +59,7 @@ impl Whole {
 }
 
 /// What the lines of a file spell together, which is a lawful catalogue, or its first faulty line.
-fn read_whole(alloc: Global, text: &[u8]) -> Result<Whole, CatalogueFault>
+fn read_whole(alloc: Global, text: &[u8]) -> Result<Whole, CatalogueError>
     ensures grammar { IsReadOf (raw_lines text.now) result }
     ensures lawful { IfOk result (λ c. IsLawfulCatalogue c) }
 {
@@ -68,7 +68,7 @@ fn read_whole(alloc: Global, text: &[u8]) -> Result<Whole, CatalogueFault>
     for line in text.lines() {
         number += 1;
         if let Err(cause) = draft.take_line(alloc, line) {
-            return Err(CatalogueFault {
+            return Err(CatalogueError {
                 cause,
                 line: number,
             });
@@ -114,7 +114,7 @@ impl Catalogue {
     ///
     /// Of several faults on one line the one with the lowest number is told. Want of memory is told
     /// with the line that was read then, and neither that line nor one before it has a fault.
-    pub fn read(alloc: Global, text: &[u8]) -> Result<Catalogue, CatalogueFault>
+    pub fn read(alloc: Global, text: &[u8]) -> Result<Catalogue, CatalogueError>
         ensures { IsReadOf (raw_lines text.now) result }
     {
         Ok(Catalogue {

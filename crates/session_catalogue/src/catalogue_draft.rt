@@ -9,7 +9,7 @@ ghost use Rattle.session_catalogue.specs.FieldsLeft.{fields_left};
 ghost use Rattle.session_values.specs.State.{has_text, table_name};
 
 use crate::catalogue::Whole;
-use crate::catalogue_fault::{CatalogueCause, CatalogueFault};
+use crate::catalogue_fault::{CatalogueCause, CatalogueError};
 use crate::catalogue_fields::Fields;
 use crate::catalogue_lines::{Line, read_line};
 use session_values::naming::HasName;
@@ -42,7 +42,7 @@ impl Model for Draft {
 }
 
 /// The fault of a file that has no version or no database.
-const INCOMPLETE: CatalogueFault = CatalogueFault {
+const INCOMPLETE: CatalogueError = CatalogueError {
     cause: CatalogueCause::NotALine,
     line: 1,
 };
@@ -152,7 +152,7 @@ impl Draft {
     }
 
     /// The catalogue, at the end of a file of so many lines.
-    pub(crate) fn finished(self, alloc: Global, lines: usize) -> Result<Whole, CatalogueFault>
+    pub(crate) fn finished(self, alloc: Global, lines: usize) -> Result<Whole, CatalogueError>
         ensures { IsWholeOf self lines result }
     {
         let Draft {
@@ -167,7 +167,7 @@ impl Draft {
         if databases.is_empty() {
             return Err(INCOMPLETE);
         }
-        Whole::new(alloc, version, databases, tables).map_err(|_| CatalogueFault {
+        Whole::new(alloc, version, databases, tables).map_err(|_| CatalogueError {
             cause: CatalogueCause::Memory,
             line: lines,
         })

@@ -42,7 +42,7 @@ impl CatalogueCause {
 /// It shows as the code and the line, as in `K3 line 7`.
 #[derive(Clone, Copy, Debug, PartialEq, Eq, Error)]
 #[error("{cause} line {line}")]
-pub struct CatalogueFault {
+pub struct CatalogueError {
     pub cause: CatalogueCause,
     /// Counted from 1.
     pub line: usize,

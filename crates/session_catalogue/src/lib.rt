@@ -8,4 +8,4 @@ mod catalogue_fields;
 mod catalogue_lines;
 
 pub use catalogue::Catalogue;
-pub use catalogue_fault::{CatalogueCause, CatalogueFault};
+pub use catalogue_fault::{CatalogueCause, CatalogueError};

@@ -3,7 +3,7 @@ use Rattle.std.proofs.Common.{◌≡◌, ℕ, zero, suc, ◌+◌, ◌<◌, ◌�
 use Rattle.std.specs.Prelude.{codes, nat_lt}
 use Rattle.std.specs.List.{AllByRecursion, list_all}
 use Rattle.frame_view.specs.Frames.{AreBytes}
-use Rattle.message_view.specs.declared.ViewFault.{ViewFault}
+use Rattle.message_view.specs.declared.ViewError.{ViewError}
 use Rattle.message_view.specs.Bodies.{Text, text, Parse, HasNoZero, numbers32, status_body, parse_body}
 use Rattle.message_view.specs.Reading.{text_at, parse_at, status_at, query_of, parse_of, status_of}
 use Rattle.message_view.specs.Spelled.{FitsParse, FitsStatus}
@@ -30,7 +30,7 @@ pub tested_bytes : (bytes : List ℕ) → list_all (λ b. nat_lt b 256) bytes �
 tested_bytes bytes h = by-place bytes (all-as (λ b. nat_lt b 256 ≡ true) (λ b. b < 256) (λ (b : ℕ) k. ltb-true b 256 k) bytes (list_all-each (λ b. nat_lt b 256) bytes h))
 
 -- A text has no zero byte, and fills the body with the zero byte after it.
-abbrev pub QueryTold : List ℕ → Result Text ViewFault → Type 0
+abbrev pub QueryTold : List ℕ → Result Text ViewError → Type 0
 QueryTold body (Ok t) = HasNoZero t × (length body ≡ length t + 1)
 QueryTold body (Err e) = Unit {0}
 
@@ -38,12 +38,12 @@ pub query-told : (body : List ℕ) → AreBytes body → QueryTold body (query_o
 unfolding query_of
 query-told body b = by_result (query_of body) refl
   where
-    by_result : (r : Result Text ViewFault) → query_of body ≡ r → QueryTold body r
+    by_result : (r : Result Text ViewError) → query_of body ≡ r → QueryTold body r
     by_result (Ok t) e = let p = text_alone body t b e in (p.0, ap length p.1 ∙ length-append t (0 ∷ []))
     by_result (Err v) e = tt
 
 -- A Parse's text has no zero byte, and is shorter than the body; the oids are counted by two bytes.
-abbrev pub ParseTold : List ℕ → Result Parse ViewFault → Type 0
+abbrev pub ParseTold : List ℕ → Result Parse ViewError → Type 0
 ParseTold body (Ok p) = HasNoZero p.query × (length p.query + 4 ≤ length body) × (length p.oids ≤ 65535)
 ParseTold body (Err e) = Unit {0}
 
@@ -55,7 +55,7 @@ pub parse-told : (body : List ℕ) → AreBytes body → ParseTold body (parse_o
 unfolding parse_of
 parse-told body b = by_result (parse_of body) refl
   where
-    by_result : (r : Result Parse ViewFault) → parse_of body ≡ r → ParseTold body r
+    by_result : (r : Result Parse ViewError) → parse_of body ≡ r → ParseTold body r
     by_result (Ok p) e =
         let told = (alone_reader parse_at parse_body FitsParse parse_reads parse_spelled).only body p b e in
         (told.0.query, (let l : length p.query + 4 ≤ length (parse_body p) = parse-length p in omega (arith, l, ap length told.1)), omega (arith, told.0.oids.count))

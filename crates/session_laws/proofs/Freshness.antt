@@ -6,7 +6,7 @@ use Rattle.std.specs.List.{list_all}
 use Rattle.std.proofs.lemmas.Bool.{true≢false}
 use Rattle.message_view.specs.declared.kinds.TheConstants.{IDLE}
 use Rattle.frame_view.specs.Frames.{FrameOf}
-use Rattle.message_view.specs.declared.ViewFault.{ViewFault}
+use Rattle.message_view.specs.declared.ViewError.{ViewError}
 use Rattle.message_view.specs.Messages.{command_complete, ready_for_query}
 use Rattle.message_view.specs.Reading.{query_of, parse_of, bind_of, target_of, execute_of}
 use Rattle.mini_sql.specs.Words.{Text}
@@ -39,12 +39,12 @@ settle-same s (Ok a) f = f.defaults
 settle-same s (Err c) f = (roll_back-same s s.saved).2
 
 module _ (cat : CatalogueOf) (s : State) where
-  query-same : (struck : Bool) (t : Result Text ViewFault) → (step_query cat s struck t).next.defaults ≡ s.defaults
+  query-same : (struck : Bool) (t : Result Text ViewError) → (step_query cat s struck t).next.defaults ≡ s.defaults
   query-same struck (Err v) = end-same s (Err MalformedMessage) tt
   query-same true (Ok t) = end-same s (Err Cancelled) tt
   query-same false (Ok t) = end-same (without_unnamed s) (query cat (without_unnamed s) t) (query-fine cat (without_unnamed s) t)
 
-  body-same : {A : Type 0} (o : Result A ViewFault) (f : A → Result Answer Cause) → ((x : A) → AllFine s (f x)) → (settle s (bound (reading_body o) f)).next.defaults ≡ s.defaults
+  body-same : {A : Type 0} (o : Result A ViewError) (f : A → Result Answer Cause) → ((x : A) → AllFine s (f x)) → (settle s (bound (reading_body o) f)).next.defaults ≡ s.defaults
   body-same o f h = settle-same s (bound (reading_body o) f) (bound-fine s (reading_body o) f h)
 
 answer-same : (cat : CatalogueOf) (s : State) (struck : Bool) (a : Asked) (body : List ℕ) → (answer_to cat s struck a body).next.defaults ≡ s.defaults

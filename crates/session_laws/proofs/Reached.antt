@@ -7,7 +7,7 @@ use Rattle.frame_view.specs.declared.server.TheConstants.{PARAMETER_STATUS}
 use Rattle.frame_view.specs.declared.frames.TheConstants.{LONGEST_FRAME}
 use Rattle.frame_view.specs.Frames.{AreBytes, FrameOf, IsFrame}
 use Rattle.frame_view.specs.declared.Side.TheVariants.{Server}
-use Rattle.message_view.specs.declared.ViewFault.{ViewFault}
+use Rattle.message_view.specs.declared.ViewError.{ViewError}
 use Rattle.message_view.specs.Bodies.{Parse}
 use Rattle.message_view.specs.Messages.{ready_for_query}
 use Rattle.message_view.specs.Reading.{query_of, parse_of, bind_of, target_of, execute_of}
@@ -173,12 +173,12 @@ terminated-stepped s h = kept-stepped s _ (kept s _ [] (made _ h.defaults h.curr
 abbrev IsParse : Parse → Type 0
 IsParse p = IsSource p.query × length p.oids ≤ 65535
 
-read-parse : (body : List ℕ) (r : Result Parse ViewFault) → 4 + length body ≤ LONGEST_FRAME → ParseTold body r → OfOk IsParse (reading_body r)
+read-parse : (body : List ℕ) (r : Result Parse ViewError) → 4 + length body ≤ LONGEST_FRAME → ParseTold body r → OfOk IsParse (reading_body r)
 read-parse body (Ok p) l h = ((h.0, omega (arith, h.1)), h.2)
 read-parse body (Err v) l h = tt
 
 module _ (cat : CatalogueOf) (lawful_tables : AllByRecursion IsTable cat.tables) where
-  query-stepped : (s : State) (struck : Bool) (body : List ℕ) (r : Result Text ViewFault) → 4 + length body ≤ LONGEST_FRAME → Lawful s → QueryTold body r → Stepped s (step_query cat s struck r)
+  query-stepped : (s : State) (struck : Bool) (body : List ℕ) (r : Result Text ViewError) → 4 + length body ≤ LONGEST_FRAME → Lawful s → QueryTold body r → Stepped s (step_query cat s struck r)
   query-stepped s struck body (Err v) l h k = end_query-stepped s (Err MalformedMessage) h tt
   query-stepped s true body (Ok t) l h k = end_query-stepped s (Err Cancelled) h tt
   query-stepped s false body (Ok t) l h k =
@@ -186,7 +186,7 @@ module _ (cat : CatalogueOf) (lawful_tables : AllByRecursion IsTable cat.tables)
       let source : IsSource t = (k.0, omega (arith, k.1)) in
       stepped-from s (without_unnamed s) (end_query (without_unnamed s) (query cat (without_unnamed s) t)) refl (end_query-stepped (without_unnamed s) (query cat (without_unnamed s) t) g (query-kept cat lawful_tables (without_unnamed s) t g source))
 
-  body-stepped : {A : Type 0} (P : A → Type 0) (s : State) (o : Result A ViewFault) (f : A → Result Answer Cause) → Lawful s → OfOk P (reading_body o) → ((x : A) → P x → AllKept s (f x)) → Stepped s (settle s (bound (reading_body o) f))
+  body-stepped : {A : Type 0} (P : A → Type 0) (s : State) (o : Result A ViewError) (f : A → Result Answer Cause) → Lawful s → OfOk P (reading_body o) → ((x : A) → P x → AllKept s (f x)) → Stepped s (settle s (bound (reading_body o) f))
   body-stepped P s o f h k g = settle-stepped s (bound (reading_body o) f) h (bound-kept P s (reading_body o) f k g)
 
   executed-kept : (s : State) (struck : Bool) (e : Text × ℕ) → Lawful s → AllKept s (executed cat s struck e)

@@ -6,7 +6,7 @@ use Rattle.std.specs.List.{list_all}
 use Rattle.frame_view.specs.declared.client.TheConstants as client
 use Rattle.frame_view.specs.declared.server.TheConstants.{READY_FOR_QUERY}
 use Rattle.frame_view.specs.Frames.{FrameOf, is_closing}
-use Rattle.message_view.specs.declared.ViewFault.{ViewFault}
+use Rattle.message_view.specs.declared.ViewError.{ViewError}
 use Rattle.message_view.specs.Bodies.{Parse, Bind, Target, OfStatement, OfPortal}
 use Rattle.message_view.specs.Messages.{data_row, ready_for_query, parameter_status, command_complete, portal_suspended}
 use Rattle.message_view.specs.Reading.{query_of, parse_of, bind_of, target_of, execute_of}
@@ -354,12 +354,12 @@ sync-ends kind s c e =
     readied kind (commit_outside t s.block) [] c refl (h.0 ∙ e) h.1 (committed-rest t s.block refl)
 
 module _ (cat : CatalogueOf) (kind : ℕ) (s : State) (e : s.ended ≡ false) (k : s.skipping ≡ false) where
-  query-ends : (struck : Bool) (t : Result Text ViewFault) → is_closing kind ≡ true → Ends kind (step_query cat s struck t).next (step_query cat s struck t).replies
+  query-ends : (struck : Bool) (t : Result Text ViewError) → is_closing kind ≡ true → Ends kind (step_query cat s struck t).next (step_query cat s struck t).replies
   query-ends struck (Err v) c = end_query-ends kind s (Err MalformedMessage) c tt e k
   query-ends true (Ok t) c = end_query-ends kind s (Err Cancelled) c tt e k
   query-ends false (Ok t) c = end_query-ends kind (without_unnamed s) (query cat (without_unnamed s) t) c (query-fine cat (without_unnamed s) t) e k
 
-  body-ends : {A : Type 0} (o : Result A ViewFault) (f : A → Result Answer Cause) → ((x : A) → AllFine s (f x)) → Ends kind (settle s (bound (reading_body o) f)).next (settle s (bound (reading_body o) f)).replies
+  body-ends : {A : Type 0} (o : Result A ViewError) (f : A → Result Answer Cause) → ((x : A) → AllFine s (f x)) → Ends kind (settle s (bound (reading_body o) f)).next (settle s (bound (reading_body o) f)).replies
   body-ends o f h = settle-ends kind s (bound (reading_body o) f) (bound-fine s (reading_body o) f h)
 
 answer-ends : (cat : CatalogueOf) (kind : ℕ) (s : State) (struck : Bool) (a : Asked) (body : List ℕ) → (closes a ≡ true → is_closing kind ≡ true) → s.ended ≡ false → s.skipping ≡ false → Ends kind (answer_to cat s struck a body).next (answer_to cat s struck a body).replies

@@ -6,7 +6,7 @@ use Rattle.std.proofs.lemmas.Slice.Eq.{bytes_eq-Decides}
 use Rattle.frame_view.specs.declared.frames.TheConstants.{LONGEST_FRAME}
 use Rattle.frame_view.specs.Frames.{FrameOf, IsFrame}
 use Rattle.frame_view.specs.declared.Side.TheVariants.{Server}
-use Rattle.message_view.specs.declared.ViewFault.{ViewFault}
+use Rattle.message_view.specs.declared.ViewError.{ViewError}
 use Rattle.message_view.specs.Bodies.{HasNoZero, text, status_body}
 use Rattle.message_view.specs.Messages.{parameter_status}
 use Rattle.message_view.specs.Reading.{status_of}
@@ -113,7 +113,7 @@ tell-one : (p : Parameter) (old new : List Text) (v r : Text) (rest : List Frame
 tell-one p old new v r rest z e f = by_test (same_text v r) refl
   where
     read : reported_by old (status_of (status_body (name p) v)) ≡ new
-    read = ap (λ (x : Result (Text × Text) ViewFault). reported_by old x) (read-status (name p) v (name-plain p) z) ∙ e
+    read = ap (λ (x : Result (Text × Text) ViewError). reported_by old x) (read-status (name p) v (name-plain p) z) ∙ e
 
     by_test : (b : Bool) → same_text v r ≡ b → after_replies old ((if b then [] else (parameter_status (name p) v ∷ [])) ++ rest) ≡ after_replies new rest
     by_test true h = ap (λ (t : List Text). after_replies t rest) (f (same-is v r h))

@@ -13,7 +13,7 @@ mod step;
 
 pub use service::solo_bytes;
 pub use session::{Session, StartError};
-pub use session_catalogue::{Catalogue, CatalogueCause, CatalogueFault};
+pub use session_catalogue::{Catalogue, CatalogueCause, CatalogueError};
 pub use session_values::block::Block;
 pub use session_values::cause::Cause;
 pub use session_values::parameter::Parameter;

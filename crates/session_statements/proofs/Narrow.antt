@@ -1,7 +1,7 @@
 -- The lists of columns that texts spell are short.
 use Rattle.std.proofs.Common.{◌≡◌, ◌≤◌, List, length, arith, Some, Option, Result, Ok, Err}
 use Rattle.std.specs.Prelude.{IfOk}
-use Rattle.mini_sql.specs.declared.SqlFault.{SqlFault}
+use Rattle.mini_sql.specs.declared.SqlError.{SqlError}
 use Rattle.mini_sql.specs.declared.stmt.Stmt.{Stmt}
 use Rattle.mini_sql.specs.Meanings.{Reads, meaning}
 use Rattle.mini_sql.specs.Words.{Text}
@@ -40,6 +40,6 @@ pub narrow : StatementIsDerived → (t : Text) (s : Statement) → statement t �
 narrow law t s e = derived_narrow (law t s e).2
 
 -- what is read is narrow
-pub narrow_reading : StatementIsDerived → (t : Text) (r : Result Stmt SqlFault) → Reads r (statement t) → IfOk r (λ s. HasAtMost64Columns (meaning s))
+pub narrow_reading : StatementIsDerived → (t : Text) (r : Result Stmt SqlError) → Reads r (statement t) → IfOk r (λ s. HasAtMost64Columns (meaning s))
 narrow_reading law t (Ok s) h = narrow law t (meaning s) h
 narrow_reading law t (Err e) h = tt

@@ -14,7 +14,7 @@ use crate::cursors::{close, declare, fetch};
 use crate::ran::Ran;
 use crate::rows::{select, show};
 use crate::set::{reset, reset_all, set, set_local};
-use mini_sql::{SqlFault, Stmt, read_statement};
+use mini_sql::{SqlError, Stmt, read_statement};
 use session_state::Catalogue;
 use session_state::session::SessionState;
 use session_values::block::Block;
@@ -31,7 +31,7 @@ fn may_end_block(statement: &Stmt<'_>) -> bool
 }
 
 /// A statement that is read, with at most 64 columns in a list.
-pub fn read_narrow(text: &[u8]) -> Result<Stmt<'_>, SqlFault>
+pub fn read_narrow(text: &[u8]) -> Result<Stmt<'_>, SqlError>
     ensures reads { Reads result (statement text.now) }
     ensures narrow { IfOk result (λ s. HasAtMost64Columns (meaning s)) }
 {

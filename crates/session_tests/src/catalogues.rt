@@ -1,5 +1,5 @@
 //! Catalogue files and their faults.
-use session_catalogue::{Catalogue, CatalogueCause, CatalogueFault};
+use session_catalogue::{Catalogue, CatalogueCause, CatalogueError};
 use session_values::naming::HasName;
 use session_values::text::Text;
 use std::alloc::Global;
@@ -242,7 +242,7 @@ fn codes_and_lines_are_shown(rt: HostRuntime) -> Result<(), Fail> {
     ];
     for (cause, code, wanted) in rows {
         assert!(rt; cause.code() == code);
-        let fault = CatalogueFault { cause, line: 7 };
+        let fault = CatalogueError { cause, line: 7 };
         let line = format!(in rt.alloc(); "{fault}")?;
         assert!(rt; line.as_str() == wanted);
     }

@@ -2,7 +2,7 @@
 use crate::key_parts::{has_parameters, is_at, is_of};
 use ini_config::read_settings;
 use message_view::StartupView;
-use param_track::{StartFault, start_key};
+use param_track::{StartKeyError, start_key};
 use start_keys::{Host, StartKey};
 use std::alloc::Global;
 use std::test::Fail;
@@ -14,13 +14,13 @@ const SETTINGS: &[u8] =
 /// A client that wants to replicate.
 const REPLICATION: &[u8] = b"user\0ann\0Replication\0database\0\0";
 
-fn key(alloc: Global, text: &[u8], body: &[u8]) -> Result<Result<StartKey, StartFault>, Fail> {
+fn key(alloc: Global, text: &[u8], body: &[u8]) -> Result<Result<StartKey, StartKeyError>, Fail> {
     let settings = read_settings(alloc, text)?;
     let view = StartupView::read(body)?;
     Ok(start_key(alloc, &settings, &view))
 }
 
-fn fault(alloc: Global, text: &[u8], body: &[u8]) -> Result<Option<StartFault>, Fail> {
+fn fault(alloc: Global, text: &[u8], body: &[u8]) -> Result<Option<StartKeyError>, Fail> {
     Ok(key(alloc, text, body)?.err())
 }
 
@@ -80,24 +80,24 @@ fn parameters_by_name(rt: HostRuntime) -> Result<(), Fail> {
 
 #[test]
 fn faults(rt: HostRuntime) -> Result<(), Fail> {
-    let rows: [(&[u8], StartFault); 9] = [
-        (b"\0", StartFault::NoUser),
-        (b"database\0shop\0\0", StartFault::NoUser),
-        (b"user\0ann\0user\0\0options\0x\0\0", StartFault::NoUser),
-        (b"User\0ann\0\0", StartFault::NoUser),
+    let rows: [(&[u8], StartKeyError); 9] = [
+        (b"\0", StartKeyError::NoUser),
+        (b"database\0shop\0\0", StartKeyError::NoUser),
+        (b"user\0ann\0user\0\0options\0x\0\0", StartKeyError::NoUser),
+        (b"User\0ann\0\0", StartKeyError::NoUser),
         (
             b"user\0ann\0options\0-c x=y\0\0",
-            StartFault::UnsupportedParameter,
+            StartKeyError::UnsupportedParameter,
         ),
         (
             b"user\0ann\0USER\0bob\0\0",
-            StartFault::UnsupportedParameter,
+            StartKeyError::UnsupportedParameter,
         ),
-        (b"user\0ann\0_pq_.x\0\0\0", StartFault::UnsupportedParameter),
-        (b"user\0ann\0replication\0true\0\0", StartFault::Replication),
+        (b"user\0ann\0_pq_.x\0\0\0", StartKeyError::UnsupportedParameter),
+        (b"user\0ann\0replication\0true\0\0", StartKeyError::Replication),
         (
             b"Replication\0\0user\0ann\0options\0\0\0",
-            StartFault::UnsupportedParameter,
+            StartKeyError::UnsupportedParameter,
         ),
     ];
     for (body, wanted) in rows {
@@ -109,7 +109,7 @@ fn faults(rt: HostRuntime) -> Result<(), Fail> {
 #[test]
 fn replication_that_is_tracked(rt: HostRuntime) -> Result<(), Fail> {
     let tracked = b"[pgbouncer]\ntrack_extra_parameters = replication\n";
-    assert!(rt; fault(rt.alloc(), tracked, REPLICATION)? == Some(StartFault::Replication));
+    assert!(rt; fault(rt.alloc(), tracked, REPLICATION)? == Some(StartKeyError::Replication));
     Ok(())
 }
 
@@ -149,7 +149,7 @@ fn untracked_and_ignored_is_dropped(rt: HostRuntime) -> Result<(), Fail> {
 fn untracked_alone_is_refused(rt: HostRuntime) -> Result<(), Fail> {
     let untracked = b"[pgbouncer]\nuntrack_parameters = application_name\n";
     let told = fault(rt.alloc(), untracked, NAMED)?;
-    assert!(rt; told == Some(StartFault::UnsupportedParameter));
+    assert!(rt; told == Some(StartKeyError::UnsupportedParameter));
     Ok(())
 }
 

@@ -1,6 +1,6 @@
 //! What links' servers report of their parameters.
 use message_view::StatusView;
-use param_track::{MOST_NAMES, ReportFault, Reported};
+use param_track::{MOST_NAMES, ReportError, Reported};
 use std::alloc::Global;
 use std::test::Fail;
 
@@ -115,7 +115,7 @@ fn sixty_four_names(rt: HostRuntime) -> Result<(), Fail> {
         name: b"other",
         setting: b"",
     };
-    assert!(rt; reported.add(rt.alloc(), &other).err() == Some(ReportFault::TooMany));
+    assert!(rt; reported.add(rt.alloc(), &other).err() == Some(ReportError::TooMany));
     let known = StatusView {
         name: b"0",
         setting: b"1",

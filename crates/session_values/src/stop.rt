@@ -4,7 +4,7 @@ ghost use Rattle.session_values.specs.declared.stop.Stop.TheVariants.{Refused, O
 ghost use Rattle.session_values.specs.declared.cause.Cause.TheVariants.{MalformedMessage};
 
 use crate::cause::Cause;
-use message_view::ViewFault;
+use message_view::ViewError;
 use std::alloc::AllocError;
 
 /// Why a message isn't carried out.
@@ -32,10 +32,10 @@ impl From<AllocError> for Stop {
     }
 }
 
-impl From<ViewFault> for Stop {
+impl From<ViewError> for Stop {
     ghost from_gives = { λ _ stop. stop ≡ Refused MalformedMessage };
 
-    fn from(_fault: ViewFault) -> Stop {
+    fn from(_fault: ViewError) -> Stop {
         Stop::Refused(Cause::MalformedMessage)
     }
 }

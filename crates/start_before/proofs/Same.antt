@@ -4,7 +4,7 @@ use Rattle.std.specs.Prelude.{◌==◌, ◌&&◌, if◌then◌else◌, bytes_eq}
 use Rattle.std.proofs.lemmas.Slice.Eq.{bytes_eq-Decides}
 use Rattle.frame_view.specs.declared.client.TheConstants.{PASSWORD_MESSAGE}
 use Rattle.frame_view.specs.Frames.{FrameOf}
-use Rattle.message_view.specs.declared.ViewFault.{ViewFault}
+use Rattle.message_view.specs.declared.ViewError.{ViewError}
 use Rattle.message_view.specs.Bodies.{Text, HasNoZero, text}
 use Rattle.message_view.specs.Reading.{at_end, password_of, text_at}
 use Rattle.message_view.proofs.Pieces.{bind-inv, at_end-inv}
@@ -41,7 +41,7 @@ reads : (answer : Text) → HasNoZero answer → password_of (text answer) ≡ O
 unfolding password_of
 reads answer h = text_again answer h
 
-told : (answer body : Text) (r : Result Text ViewFault) → password_of body ≡ r → is_text answer r ≡ true → bytes_eq body (text answer) ≡ true
+told : (answer body : Text) (r : Result Text ViewError) → password_of body ≡ r → is_text answer r ≡ true → bytes_eq body (text answer) ≡ true
 told answer body (Ok given) e t = alike body (text answer) (spells body given e ∙ ap text (same given answer t))
 told answer body (Err fault) e t = absurd cc
 

@@ -3,7 +3,7 @@
 use Rattle.std.specs.Prelude.{◌≡◌, ℕ, List, [], ◌∷◌, ◌++◌, Result, Ok, Err, Bool, false, ◌==◌, if◌then◌else◌, bytes_eq}
 use Rattle.frame_view.specs.declared.client.TheConstants.{PASSWORD_MESSAGE}
 use Rattle.frame_view.specs.Frames.{FrameOf}
-use Rattle.message_view.specs.declared.ViewFault.{ViewFault}
+use Rattle.message_view.specs.declared.ViewError.{ViewError}
 use Rattle.message_view.specs.Bodies.{Text, HasNoZero, text}
 use Rattle.message_view.specs.Messages.{authentication}
 use Rattle.message_view.specs.Reading.{password_of}
@@ -50,7 +50,7 @@ abbrev pub begins : Server → Auth → List ℕ → Turn
 begins v NoAuth start = opens v start
 begins v (Asks kind more answer) start = turns (Asked start answer) (authentication kind more ∷ [])
 
-abbrev pub is_text : Text → Result Text ViewFault → Bool
+abbrev pub is_text : Text → Result Text ViewError → Bool
 is_text answer (Ok given) = bytes_eq given answer
 is_text answer (Err fault) = false
 

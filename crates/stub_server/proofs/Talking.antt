@@ -6,7 +6,7 @@ use Rattle.std.proofs.lemmas.Bool.{true≢false, eqb-true}
 use Rattle.std.specs.Borrow.{Bor}
 use Rattle.std.specs.List.{flat_map}
 use Rattle.frame_view.specs.declared.Frame.{Frame}
-use Rattle.frame_view.specs.declared.FrameFault.{FrameFault}
+use Rattle.frame_view.specs.declared.FrameError.{FrameError}
 use Rattle.frame_view.specs.declared.FirstStep.{FirstStep}
 use Rattle.frame_view.specs.declared.FirstStep.TheVariants.{Startup, Cancel, Tls, Gss, Need, Bad}
 use Rattle.frame_view.specs.declared.Step.TheVariants as found
@@ -201,7 +201,7 @@ cancel-at grows pid secret items (AFirst (Start text) rest) e t = absurd t
 cancel-at grows pid secret items (LacksFirst n) e t = absurd t
 cancel-at grows pid secret items (FaultyFirst fault) e t = absurd t
 
-fault-at : FirstGrows → (fault : FrameFault) (items : List ℕ) (f : FirstFront) → first_front items ≡ f → TellsFirst (Bad fault) f → IsSilentAt items None
+fault-at : FirstGrows → (fault : FrameError) (items : List ℕ) (f : FirstFront) → first_front items ≡ f → TellsFirst (Bad fault) f → IsSilentAt items None
 fault-at grows fault items (FaultyFirst other) e t =
     let stands : (more : List ℕ) → first_front (items ++ more) ≡ FaultyFirst other = λ more. (grows items more).fault other e in
     record { silent = λ v marks again more. ap (first_reply v marks again) (stands more); asked_is = λ again more. ap (asked_first again) (stands more) }
@@ -215,7 +215,7 @@ pub cancel_ends : FirstGrows → (h : Host) (left pid secret : ℕ) (bytes items
 cancel_ends grows h left pid secret bytes items out some same t =
     silent_ends h left items out (Some (key_of pid secret)) some (cancel-at grows pid secret items (first_front items) refl (subst (λ (x : List ℕ). TellsFirst (Cancel pid secret) (first_front x)) same t))
 
-pub fault_ends : FirstGrows → (h : Host) (left : ℕ) (fault : FrameFault) (bytes items out : List ℕ) → 0 < left → bytes ≡ items → TellsFirst (Bad fault) (first_front bytes) → Takes (End None) (talk_of h (Waits left) items out) (talk_of h (Waits left) items out)
+pub fault_ends : FirstGrows → (h : Host) (left : ℕ) (fault : FrameError) (bytes items out : List ℕ) → 0 < left → bytes ≡ items → TellsFirst (Bad fault) (first_front bytes) → Takes (End None) (talk_of h (Waits left) items out) (talk_of h (Waits left) items out)
 fault_ends grows h left fault bytes items out some same t =
     silent_ends h left items out None some (fault-at grows fault items (first_front items) refl (subst (λ (x : List ℕ). TellsFirst (Bad fault) (first_front x)) same t))
 
@@ -303,12 +303,12 @@ takes_frame_here stay h cat s next m frame took bytes items rest out replied w d
 pub frame_waits : (h : Host) (s : SessionOf) (n : ℕ) (bytes items out : List ℕ) → bytes ≡ items → Tells (found.Need n) bytes (front Client LONGEST_FRAME bytes) → Takes Nothing (talk_of h (Serves s) items out) (talk_of h (Serves s) items out)
 frame_waits h s n bytes items out same t = (unchanged (talk_of h (Serves s) items out), (waits_frame (server_of h) s.state (found.Need n) bytes items out [] same (λ f e. absurd cc) t).answered)
 
-faulty_of : (fault : FrameFault) (bytes : List ℕ) (f : Front) → Tells (found.Bad fault) bytes f → f ≡ Faulty fault
+faulty_of : (fault : FrameError) (bytes : List ℕ) (f : Front) → Tells (found.Bad fault) bytes f → f ≡ Faulty fault
 faulty_of fault bytes (Faulty other) t = ap Faulty (sym t)
 faulty_of fault bytes (AFrame kind body rest) t = absurd t
 faulty_of fault bytes (Lacks n) t = absurd t
 
-pub frame_ends : FrontGrows → (h : Host) (s : SessionOf) (fault : FrameFault) (bytes items out : List ℕ) → bytes ≡ items → Tells (found.Bad fault) bytes (front Client LONGEST_FRAME bytes) → Takes (End None) (talk_of h (Serves s) items out) (talk_of h (Serves s) items out)
+pub frame_ends : FrontGrows → (h : Host) (s : SessionOf) (fault : FrameError) (bytes items out : List ℕ) → bytes ≡ items → Tells (found.Bad fault) bytes (front Client LONGEST_FRAME bytes) → Takes (End None) (talk_of h (Serves s) items out) (talk_of h (Serves s) items out)
 unfolding run_frames
 frame_ends grows h s fault bytes items out same t = (
   unchanged (talk_of h (Serves s) items out),

@@ -1,16 +1,16 @@
 //! Standard input.
-use pool_app::fault::AppFault;
-use pool_app::files::{MOST_BYTES, ReadFault, read_all};
+use pool_app::fault::AppError;
+use pool_app::files::{MOST_BYTES, ReadError, read_all};
 use std::alloc::Global;
 use std::io::ErrorKind;
 
 /// A client's bytes.
-pub fn read_input<'a, R: Input>(rt: &R, alloc: Global) -> Result<Vec<u8>, AppFault<'a>> {
+pub fn read_input<'a, R: Input>(rt: &R, alloc: Global) -> Result<Vec<u8>, AppError<'a>> {
     match read_all(alloc, rt.reader(), MOST_BYTES) {
         Ok(bytes) => Ok(bytes),
-        Err(ReadFault::Io(error)) if error.kind() == ErrorKind::OutOfMemory => Err(
-            AppFault::Memory,
+        Err(ReadError::Io(error)) if error.kind() == ErrorKind::OutOfMemory => Err(
+            AppError::Memory,
         ),
-        Err(_) => Err(AppFault::Stdin),
+        Err(_) => Err(AppError::Stdin),
     }
 }

@@ -1,6 +1,6 @@
 //! `trials lease`: what a client is given by its login and its lease, over ends that move few bytes a call and a server that dies.
 use crate::input::read_input;
-use pool_app::fault::AppFault;
+use pool_app::fault::AppError;
 use replay_run::replay::{Unended, replies};
 use std::alloc::Global;
 
@@ -10,7 +10,7 @@ pub fn answer<'a, R: Input>(
     alloc: Global,
     cut: usize,
     dies_after: Option<u64>,
-) -> Result<Vec<u8>, AppFault<'a>> {
+) -> Result<Vec<u8>, AppError<'a>> {
     let bytes = read_input(rt, alloc)?;
     let Ok(answer) = replies(
         alloc,
@@ -19,10 +19,10 @@ pub fn answer<'a, R: Input>(
         Unended::Failed,
         bytes.as_slice(),
     ) else {
-        return Err(AppFault::Memory);
+        return Err(AppError::Memory);
     };
     match Vec::from_slice(alloc, answer.as_slice()) {
         Ok(answer) => Ok(answer),
-        Err(_) => Err(AppFault::Memory),
+        Err(_) => Err(AppError::Memory),
     }
 }

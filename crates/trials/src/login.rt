@@ -3,9 +3,9 @@ use crate::KEY_WORD;
 use crate::input::read_input;
 use crate::lines::{put_hex_line, put_number};
 use ini_config::Settings;
-use login_core::{Failure, Login, LoginStep};
+use login_core::{Login, LoginRefusal, LoginStep};
 use message_view::{Refusal, refusal_bytes};
-use pool_app::fault::AppFault;
+use pool_app::fault::AppError;
 use pool_app::files::{read_file, settings_of, users_of};
 use session_machine::StartKey;
 use std::alloc::{AllocError, Global};
@@ -21,7 +21,7 @@ enum Ending {
     Passed(Arc<StartKey>),
     Console,
     Refused(Refusal),
-    Failed(Failure),
+    Failed(LoginRefusal),
     Cancel { pid: u32, secret: u32 },
     Left,
 }
@@ -144,10 +144,10 @@ fn put_refusal(refusal: Refusal, out: &mut Vec<u8>) -> Result<(), AllocError> {
     out.extend_from_slice(refusal.code())
 }
 
-fn put_failure(failure: Failure, out: &mut Vec<u8>) -> Result<(), AllocError> {
+fn put_failure(failure: LoginRefusal, out: &mut Vec<u8>) -> Result<(), AllocError> {
     match failure {
-        Failure::WrongPassword => out.extend_from_slice(b"failed 28P01"),
-        Failure::NoDatabase => out.extend_from_slice(b"failed 3D000"),
+        LoginRefusal::WrongPassword => out.extend_from_slice(b"failed 28P01"),
+        LoginRefusal::NoDatabase => out.extend_from_slice(b"failed 3D000"),
     }
 }
 
@@ -206,7 +206,7 @@ pub fn answer<'a, R: Files + Input>(
     ini: &'a str,
     users: &'a str,
     cut: usize,
-) -> Result<Vec<u8>, AppFault<'a>> {
+) -> Result<Vec<u8>, AppError<'a>> {
     let text = read_file(rt, alloc, ini)?;
     let settings = settings_of(alloc, text.as_slice())?;
     let text = read_file(rt, alloc, users)?;
@@ -214,6 +214,6 @@ pub fn answer<'a, R: Files + Input>(
     let bytes = read_input(rt, alloc)?;
     match lines_of(alloc, settings, users, bytes.as_slice(), cut) {
         Ok(lines) => Ok(lines),
-        Err(_) => Err(AppFault::Memory),
+        Err(_) => Err(AppError::Memory),
     }
 }

@@ -19,7 +19,7 @@ mod ticks;
 use job::Job;
 use lines::number_line;
 use message_view::KeyWord;
-use pool_app::fault::AppFault;
+use pool_app::fault::AppError;
 use std::alloc::{AllocError, Global};
 use std::io::Write;
 use std::process::ExitCode;
@@ -34,13 +34,13 @@ const KEY_WORD: KeyWord = KeyWord {
 };
 
 /// A count, as a line.
-fn line_of<'a>(alloc: Global, count: Result<u64, AllocError>) -> Result<Vec<u8>, AppFault<'a>> {
+fn line_of<'a>(alloc: Global, count: Result<u64, AllocError>) -> Result<Vec<u8>, AppError<'a>> {
     let Ok(count) = count else {
-        return Err(AppFault::Memory);
+        return Err(AppError::Memory);
     };
     match number_line(alloc, count) {
         Ok(line) => Ok(line),
-        Err(_) => Err(AppFault::Memory),
+        Err(_) => Err(AppError::Memory),
     }
 }
 
@@ -48,7 +48,7 @@ fn answer<'a, R: Files + Input>(
     rt: &R,
     alloc: Global,
     job: Job<'a>,
-) -> Result<Vec<u8>, AppFault<'a>> {
+) -> Result<Vec<u8>, AppError<'a>> {
     match job {
         Job::Login { ini, users, cut } => login::answer(rt, alloc, ini, users, cut),
         Job::Solo {
@@ -76,11 +76,11 @@ fn run<'a, R: Files + Input + Print>(
     rt: &R,
     alloc: Global,
     job: Job<'a>,
-) -> Result<(), AppFault<'a>> {
+) -> Result<(), AppError<'a>> {
     let answer = answer(rt, alloc, job)?;
     let mut output = io::writer(rt);
     if output.write_all(answer.as_slice()).is_err() || output.flush().is_err() {
-        return Err(AppFault::Stdout);
+        return Err(AppError::Stdout);
     }
     Ok(())
 }

@@ -6,7 +6,7 @@ use crate::input::read_input;
 use crate::lines::put_hex_line;
 use bytes::BytesMut;
 use frame_view::{Frame, LONGEST_FRAME, Side, Step, next_frame};
-use pool_app::fault::AppFault;
+use pool_app::fault::AppError;
 use pool_app::files::read_catalogue;
 use session_machine::{Catalogue, Session, StartKey, Text, solo_bytes};
 use start_keys::Host;
@@ -132,7 +132,7 @@ pub fn answer<'a, R: Files + Input>(
     catalogue: &'a str,
     user: &str,
     cancelled: Option<u64>,
-) -> Result<Vec<u8>, AppFault<'a>> {
+) -> Result<Vec<u8>, AppError<'a>> {
     let catalogue = read_catalogue(rt, alloc, catalogue)?;
     let bytes = read_input(rt, alloc)?;
     let (user, bytes) = (user.as_bytes(), bytes.as_slice());
@@ -142,6 +142,6 @@ pub fn answer<'a, R: Files + Input>(
     };
     match lines {
         Ok(lines) => Ok(lines),
-        Err(_) => Err(AppFault::Memory),
+        Err(_) => Err(AppError::Memory),
     }
 }

@@ -7,7 +7,7 @@ use Rattle.user_file.specs.Fields.{fields, unquoted}
 use Rattle.user_file.specs.Secrets.{Text, secret_of}
 use Rattle.user_file.specs.declared.faults.UserCause.{UserCause}
 use Rattle.user_file.specs.declared.faults.UserCause.TheVariants.{BadQuoting, NameTwice, Memory}
-use Rattle.user_file.specs.declared.faults.UserFault.{UserFault}
+use Rattle.user_file.specs.declared.faults.UserError.{UserError}
 use Rattle.user_file.specs.declared.user_table.UserRow.{UserRow}
 
 -- the users that a login goes by, and the key of the salts that names have
@@ -50,7 +50,7 @@ abbrev pub keeps : Text → Bool
 keeps line = not (is_ignored line)
 
 -- the users that the lines spell, or the fault that is reported of them
-abbrev pub IsReadOf : List Text → Result (List UserRow) UserFault → Type 0
+abbrev pub IsReadOf : List Text → Result (List UserRow) UserError → Type 0
 IsReadOf lines (Ok users) = IsFaultless with_line fault_of [] lines × (users ≡ said_by with_line fault_of [] lines)
 IsReadOf lines (Err f) = IsReported with_line fault_of [] Memory keeps lines f.cause f.line
 

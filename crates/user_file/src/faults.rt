@@ -20,7 +20,7 @@ pub enum UserCause {
 /// It shows as the code and the line, as in `U1 line 7`, and tells nothing of the line's text.
 #[derive(Clone, Copy, Debug, PartialEq, Eq, Error)]
 #[error("{cause} line {line}")]
-pub struct UserFault {
+pub struct UserError {
     pub cause: UserCause,
     /// Counted from 1.
     pub line: usize,

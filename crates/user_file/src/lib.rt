@@ -10,7 +10,7 @@ mod secrets;
 mod user_table;
 mod users;
 
-pub use faults::{UserCause, UserFault};
+pub use faults::{UserCause, UserError};
 pub use password::Password;
 pub use reading::read_users;
 pub use salts::{Judging, ROUNDS, Salting};

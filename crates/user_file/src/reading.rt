@@ -6,7 +6,7 @@ ghost use Rattle.user_file.specs.Fields as fields_spec;
 ghost use Rattle.user_file.specs.Secrets as secrets_spec;
 ghost use Rattle.user_file.specs.Users as spec;
 
-use crate::faults::{UserCause, UserFault};
+use crate::faults::{UserCause, UserError};
 use crate::fields::{fields, unquoted};
 use crate::secrets::Secret;
 use crate::user_table::{UserRow, UserTable};
@@ -62,7 +62,7 @@ fn take_line(users: &mut UserTable, alloc: Global, line: &[u8]) -> Result<(), Us
 /// A line ends with LF or CR LF or the end of the file; spaces and tabs at its ends are dropped. Of several faults on one line the
 /// one with the lowest number is reported. Out of memory is reported with a line that names a user, and neither that line nor one
 /// before it has another fault.
-pub fn read_users(alloc: Global, text: &[u8]) -> Result<UserTable, UserFault>
+pub fn read_users(alloc: Global, text: &[u8]) -> Result<UserTable, UserError>
     ensures { spec.IsReadOf (lines_of_file text.now) result }
 {
     let mut users = UserTable::new(alloc);
@@ -70,7 +70,7 @@ pub fn read_users(alloc: Global, text: &[u8]) -> Result<UserTable, UserFault>
     for line in text.lines() {
         number += 1;
         if let Err(cause) = take_line(&mut users, alloc, trimmed(line)) {
-            return Err(UserFault {
+            return Err(UserError {
                 cause,
                 line: number,
             });

@@ -5,7 +5,7 @@ use itoa::Buffer;
 use message_view::{
     AuthView, BindView, CloseView, Codes, DataRowView, DescribeView, ExecuteView, KeyView,
     NoteView, ParseView, PasswordView, QueryView, ReadyView, RowDescView, StartupView, Status,
-    StatusView, TagView, Target, Values, ViewFault,
+    StatusView, TagView, Target, Values, ViewError,
 };
 use std::alloc::{AllocError, Global};
 
@@ -22,7 +22,7 @@ pub enum Messages {
 #[derive(Drop)]
 enum Unread {
     Memory,
-    Fault(ViewFault),
+    Fault(ViewError),
 }
 
 impl From<AllocError> for Unread {
@@ -31,8 +31,8 @@ impl From<AllocError> for Unread {
     }
 }
 
-impl From<ViewFault> for Unread {
-    fn from(fault: ViewFault) -> Unread {
+impl From<ViewError> for Unread {
+    fn from(fault: ViewError) -> Unread {
         Unread::Fault(fault)
     }
 }
@@ -200,10 +200,10 @@ impl Line {
         let end: &[u8] = match parts {
             Ok(()) => b" .\n",
             Err(Unread::Memory) => return Err(AllocError),
-            Err(Unread::Fault(ViewFault::TooShort)) => b" TooShort\n",
-            Err(Unread::Fault(ViewFault::NoZero)) => b" NoZero\n",
-            Err(Unread::Fault(ViewFault::LeftOver)) => b" LeftOver\n",
-            Err(Unread::Fault(ViewFault::BadLength)) => b" BadLength\n",
+            Err(Unread::Fault(ViewError::TooShort)) => b" TooShort\n",
+            Err(Unread::Fault(ViewError::NoZero)) => b" NoZero\n",
+            Err(Unread::Fault(ViewError::LeftOver)) => b" LeftOver\n",
+            Err(Unread::Fault(ViewError::BadLength)) => b" BadLength\n",
         };
         self.out.extend_from_slice(end)
     }

@@ -1,10 +1,10 @@
 use Rattle.std.proofs.Common.{ℕ, List, sym, ap, ap₂, ◌∙◌, subst, Result, Err, Option, None}
 use Rattle.frame_view.specs.declared.Side.TheVariants.{Server}
 use Rattle.frame_view.specs.Frames.{AreBytes, frames}
-use Rattle.message_view.specs.declared.ViewFault.{ViewFault}
+use Rattle.message_view.specs.declared.ViewError.{ViewError}
 use Rattle.message_view.specs.declared.views.KeyView.{KeyView}
 use Rattle.param_track.specs.Kept.{Kept}
-use Rattle.link_start.specs.declared.start_reply.ReportError.{ReportError}
+use Rattle.link_start.specs.declared.start_reply.TakeReportError.{TakeReportError}
 use Rattle.link_run.specs.Dialogues.{keyed_all, reported_all}
 use Rattle.link_start.specs.StartReply.{Takes}
 use Rattle.link_start.specs.Starts.{StartView, IsDone, IsDoneFrom, IsOwnKey}
@@ -14,7 +14,7 @@ use Rattle.link_start.proofs.start.Start.finish.Goals as goal
 abbrev reported : List Kept → List ℕ → Option (List Kept)
 reported kept bytes = reported_all kept (frames Server 65536 bytes).frames
 
-abbrev keyed : List ℕ → Result (Option KeyView) ViewFault
+abbrev keyed : List ℕ → Result (Option KeyView) ViewError
 keyed bytes = keyed_all None (frames Server 65536 bytes).frames
 
 pub clean-requires : goal.clean-requires
@@ -38,4 +38,4 @@ returns-in-Err-Unexpected-clause-cause g c = λ b s d.
     let y = subst (λ (v : StartView). IsDoneFrom b s v) (sym c.self.view_is) d in
     unreported_cause b s _ y (subst AreBytes c.as_slice-2.ensures c.in-Err-Unexpected.ensures.bytes)
     (ap₂ reported (sym c.new-reported.ensures) (sym c.as_slice-2.ensures)
-    ∙ subst (λ (u : ReportError). Takes (reported c.new-reported.result c.as_slice-2.result.now) c.take_reports.new.reported (Err u)) c.in-Err-Unexpected.field-0-is c.in-Err-Unexpected.ensures.taken)
+    ∙ subst (λ (u : TakeReportError). Takes (reported c.new-reported.result c.as_slice-2.result.now) c.take_reports.new.reported (Err u)) c.in-Err-Unexpected.field-0-is c.in-Err-Unexpected.ensures.taken)
