@@ -16,7 +16,7 @@ from counting import FEW, MANY, an_event, instructions
 from passes import words
 
 EVENTS, ROUNDS = 500_000, 3
-MOST_GROWTH, MOST_MICROSECONDS, MOST_MILLISECONDS = 1.5, 3, 5
+MAX_GROWTH, MAX_MICROSECONDS, MAX_MILLISECONDS = 1.5, 3, 5
 ROWS, TICKS = 10_000, 1_000
 
 
@@ -29,15 +29,15 @@ def main(trials, events=EVENTS):
     events = int(events)
     few, many = (min(an_event(taken, trials, crowd, events) for _ in range(ROUNDS)) * 1e6 for crowd in (FEW, MANY))
     print(f"an event with {FEW[0]} clients of one pool {few:.2f} us, with {MANY[0]} of {MANY[1]} pools {many:.2f} us")
-    met = judged("  the one to the other", many / few, MOST_GROWTH)
-    met &= judged("  microseconds with many", many, MOST_MICROSECONDS)
+    met = judged("  the one to the other", many / few, MAX_GROWTH)
+    met &= judged("  microseconds with many", many, MAX_MICROSECONDS)
     if shutil.which("valgrind"):
         few, many = (an_event(instructions, trials, crowd, events // 50) for crowd in (FEW, MANY))
         print(f"in instructions {few:.0f} and {many:.0f}")
-        met &= judged("  the one to the other", many / few, MOST_GROWTH)
+        met &= judged("  the one to the other", many / few, MAX_GROWTH)
     # nor does the coming of the links
     tick = (taken(trials, "ticks", ROWS, ROWS, TICKS + 1) - taken(trials, "ticks", ROWS, ROWS, 1)) / TICKS * 1e3
-    met &= judged(f"milliseconds a second with {ROWS} idle links under {ROWS} database rows", tick, MOST_MILLISECONDS)
+    met &= judged(f"milliseconds a second with {ROWS} idle links under {ROWS} database rows", tick, MAX_MILLISECONDS)
     return 0 if met else 1
 
 

@@ -36,7 +36,7 @@ SILENT, SERVED = 10_000, 100
 # the files of a connection, and those that the others need
 FILES_EACH, FILES_MORE = 2, 1_000
 LINKS = 40
-MOST_CLIENTS = 10_000
+MAX_CLIENTS = 10_000
 # what a row has more than its value: type and length, and an end of line, or how many fields there are and the field's length
 ROW_MORE = {"text": 6, "binary": 11}
 GIGABYTE = 1e9
@@ -49,9 +49,9 @@ class Bench:
         self.poolers = {}
         kinds = ["pgsess"] + (["pgbouncer"] if shutil.which("pgbouncer") else [])
         for kind in kinds:
-            self.poolers[kind] = Pooler(self.place, self.cluster, program, kind, auth="md5", size=LINKS, clients=MOST_CLIENTS, wait=0)
+            self.poolers[kind] = Pooler(self.place, self.cluster, program, kind, auth="md5", size=LINKS, clients=MAX_CLIENTS, wait=0)
         self.ports = {**{kind: it.port for kind, it in self.poolers.items()}, "directly": self.cluster.port}
-        self.untracked = Pooler(self.place, self.cluster, program, auth="md5", size=LINKS, clients=MOST_CLIENTS, wait=0,
+        self.untracked = Pooler(self.place, self.cluster, program, auth="md5", size=LINKS, clients=MAX_CLIENTS, wait=0,
                                 untracked="application_name")
         self.pgbench(self.cluster.port, "-i", "-q", "-s", "10", timed=False)
         self.found = {}

@@ -20,8 +20,8 @@ LIMIT = 16_777_216
 WELCOME = ROWS / "start.out"
 MEGABYTE = 1 << 20
 TIMES = 3
-MOST_GROWTH = 1.3
-MOST_SLOWER = 10
+MAX_GROWTH = 1.3
+MAX_SLOWER = 10
 
 
 def conversation(message, size):
@@ -46,8 +46,8 @@ def measured(name, message, program, cut_frames, reply_file):
         print(f"  {megabytes:2} MB: {taken:.3f} s, {1e9 * per_byte[megabytes]:.1f} ns a byte, {len(data) / taken / 1e6:.1f} MB/s")
     in_c = seconds(plain, data, TIMES)
     print(f"  16 MB in plain C: {in_c:.3f} s, {1e9 * in_c / len(data):.1f} ns a byte, {len(data) / in_c / 1e6:.1f} MB/s")
-    flat = judged("  time per byte, 16 MB to 1 MB", per_byte[16] / per_byte[1], MOST_GROWTH)
-    fast = judged("  pgsess to plain C, 16 MB", taken / in_c, MOST_SLOWER)
+    flat = judged("  time per byte, 16 MB to 1 MB", per_byte[16] / per_byte[1], MAX_GROWTH)
+    fast = judged("  pgsess to plain C, 16 MB", taken / in_c, MAX_SLOWER)
     return flat and fast
 
 

@@ -18,8 +18,8 @@ STATEMENTS = 20_000
 SHOWS = 200_000
 PREPARED = 1_000
 TIMES = 9
-MOST_GROWTH = 2
-MOST_BESIDE = 1.2
+MAX_GROWTH = 2
+MAX_BESIDE = 1.2
 
 CREATE = query("CREATE TEMP TABLE t (a text)")
 INSERT = query("INSERT INTO t VALUES ('x')")
@@ -41,15 +41,15 @@ def main(program):
     first, three, whole = (taken(CREATE + INSERT * n) for n in (quarter, 3 * quarter, STATEMENTS))
     print(f"{STATEMENTS} INSERTs into one temporary table, outside a block: {whole - empty:.3f} s")
     print(f"  first quarter: {1e6 * (first - empty) / quarter:.2f} us a statement, last quarter: {1e6 * (whole - three) / quarter:.2f} us")
-    grown = judged("  last quarter to first", (whole - three) / (first - empty), MOST_GROWTH)
+    grown = judged("  last quarter to first", (whole - three) / (first - empty), MAX_GROWTH)
     alone = taken(SHOW * SHOWS) - bare
     beside = taken(CREATE + INSERT * STATEMENTS + SHOW * SHOWS) - whole
     print(f"{SHOWS} SHOWs: {1e6 * alone / SHOWS:.2f} us each without a table, {1e6 * beside / SHOWS:.2f} us beside that table")
-    free = judged("  beside the table to without", beside / alone, MOST_BESIDE)
+    free = judged("  beside the table to without", beside / alone, MAX_BESIDE)
     prepared = b"".join(parse(f"s{i}", "SHOW TimeZone") for i in range(PREPARED)) + SYNC
     among = taken(prepared + SHOW * SHOWS) - taken(prepared)
     print(f"  {1e6 * among / SHOWS:.2f} us each beside {PREPARED} prepared statements")
-    apart = judged("  beside the prepared statements to without", among / alone, MOST_BESIDE)
+    apart = judged("  beside the prepared statements to without", among / alone, MAX_BESIDE)
     return 0 if grown and free and apart else 1
 
 

@@ -14,7 +14,7 @@ import string
 import sys
 import textwrap
 
-from settings_table import MOST_NUMBERS, TABLE, TOP, Table, in_code, in_definition, number, on_page
+from settings_table import MAX_NUMBERS, TABLE, TOP, Table, in_code, in_definition, number, on_page
 
 # how long a line may be: of code, of a pair in it, of definitions, of the man page and of the example
 CODE, PAIR, DEFINITION, MAN, EXAMPLE = 100, 60, 140, 78, 118
@@ -206,7 +206,7 @@ def notices(table):
 def words(table):
     """What `pgsess check` says of a value that is none."""
     numbers, choices, others = table.taking("port", "count", "number"), table.taking("choice", "mode"), table.taking("addresses", "names")
-    most = "takes a number from {} to {}".format(*MOST_NUMBERS)
+    most = "takes a number from {} to {}".format(*MAX_NUMBERS)
     yield from chain("numbers_of", numbers, f'b"{most}"', f'codes "{most}"')
     yield from chain("choices_of", choices, "numbers_of(name)", "numbers_of name")
     yield from chain("values_of", others, "choices_of(name)", "choices_of name")

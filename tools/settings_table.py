@@ -14,7 +14,7 @@ WORDS = set("""name kind default choices getter note bounded wrong_reader at_sta
 example proposed comment arm begins_line""".split())
 
 # what most numbers are: of them `pgsess check` needn't say what they take
-MOST_NUMBERS = (0, 2 ** 31 - 1)
+MAX_NUMBERS = (0, 2 ** 31 - 1)
 
 
 class Setting:
@@ -91,7 +91,7 @@ class Table:
         """What settings of these kinds take, by one name or two, in the order of the kinds."""
         names = collections.defaultdict(list)
         for kind, it in itertools.product(kinds, self.paged):
-            if it.kind == kind and it.takes and (it.low, it.high) != MOST_NUMBERS:
+            if it.kind == kind and it.takes and (it.low, it.high) != MAX_NUMBERS:
                 names[it.takes].append(it.name)
         return [(some[at:at + 2], f"takes {takes}") for takes, some in names.items() for at in range(0, len(some), 2)]
 

@@ -20,7 +20,7 @@ SERVER = {
 }
 PROTOCOL_3_0, CANCEL_REQUEST, SSL_REQUEST, GSSENC_REQUEST = 196608, 80877102, 80877103, 80877104
 CODES = {CANCEL_REQUEST: "CancelRequest", SSL_REQUEST: "SSLRequest", GSSENC_REQUEST: "GSSENCRequest"}
-LONGEST_TEXT = 60
+MAX_TEXT = 60
 
 
 class Parts:
@@ -59,8 +59,8 @@ class Parts:
 
 
 def quoted(part):
-    shown = "".join(chr(b) if 32 <= b < 127 and b not in b'"\\' else f"\\x{b:02x}" for b in part[:LONGEST_TEXT])
-    return f'"{shown}"' + (f" and more, {len(part)} bytes in all" if len(part) > LONGEST_TEXT else "")
+    shown = "".join(chr(b) if 32 <= b < 127 and b not in b'"\\' else f"\\x{b:02x}" for b in part[:MAX_TEXT])
+    return f'"{shown}"' + (f" and more, {len(part)} bytes in all" if len(part) > MAX_TEXT else "")
 
 
 def listed(parts):

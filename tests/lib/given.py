@@ -4,7 +4,7 @@ from frames import CLIENT
 from wire import message
 
 HEAD = 5
-LONGEST_FRAME = 2_147_483_647
+MAX_FRAME = 2_147_483_647
 LEAVES = ord("X")
 
 
@@ -69,7 +69,7 @@ def head_refusal(kind, length):
     """What a message with this head is refused by, if it is."""
     if chr(kind) not in CLIENT or length < 4:
         return MALFORMED
-    return TOO_LONG if length > LONGEST_FRAME else b""
+    return TOO_LONG if length > MAX_FRAME else b""
 
 
 def refusal(data):

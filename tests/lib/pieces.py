@@ -9,7 +9,7 @@ from worked import KEY, differs
 
 # a client waits for others, but nobody for an event that the system has told already
 SECONDS = 8
-LONGEST_REST = 0.003
+MAX_REST = 0.003
 
 
 class Way:
@@ -19,7 +19,7 @@ class Way:
         chance = random.Random(f"way {seed}")
         places = sorted(chance.randrange(size + 1) for _ in range(chance.choice([0, 1, 2, 5, 20])))
         self.borders = list(zip([0, *places], [*places, size]))
-        self.rests = [chance.choice([0, 0, chance.random() * LONGEST_REST]) for _ in self.borders]
+        self.rests = [chance.choice([0, 0, chance.random() * MAX_REST]) for _ in self.borders]
         # some are cut off after a share of what they are to be given, or sooner
         self.reads = chance.random() if chance.random() < 0.15 else 1
 

@@ -6,7 +6,7 @@ from given import FAILED, GIVEN, HEAD, UNREACHED, fatal
 from wire import message
 from worked import KEY
 
-LONGEST_REPLY, LONGEST_STATUS, LONGEST_FRAME = 65_536, 4_096, 2_147_483_647
+MAX_REPLY, MAX_STATUS, MAX_FRAME = 65_536, 4_096, 2_147_483_647
 MALFORMED = fatal("08P01", "malformed server message")
 OK, IDLE, TAG = GIVEN["ok"], message(b"Z", b"I"), message(b"C", b"DISCARD ALL\0")
 # the parts of a conversation: the start, the answers to two statements, and that to the reset
@@ -43,7 +43,7 @@ MORE, OTHER = "more", "other"
 
 def started(data):
     """What a start comes to: the reports by their names, the server's own refusal, MORE or OTHER."""
-    found, rest, is_faulty = frames_of(data, LONGEST_REPLY)
+    found, rest, is_faulty = frames_of(data, MAX_REPLY)
     is_in, is_readable, reports = False, True, {}
     for number, frame in enumerate(found):
         if frame[:1] == b"E":
@@ -68,7 +68,7 @@ def started(data):
 
 def told_by(reports, frame):
     """Whether a report can be read and is of a parameter that the start reported; its value is kept."""
-    report = report_of(frame) if len(frame) <= HEAD + LONGEST_STATUS else None
+    report = report_of(frame) if len(frame) <= HEAD + MAX_STATUS else None
     if report is None or report[0] not in reports:
         return False
     reports[report[0]] = report[1]
@@ -77,7 +77,7 @@ def told_by(reports, frame):
 
 def is_clean(data, reports, first):
     """Whether this answers a reset, after which all reports are the first ones; or MORE."""
-    found, rest, is_faulty = frames_of(data, LONGEST_REPLY)
+    found, rest, is_faulty = frames_of(data, MAX_REPLY)
     wanted, known = [TAG, IDLE], True
     for frame in found:
         if wanted and frame[:1] in b"NS":
@@ -99,9 +99,9 @@ class Relayed:
         while len(data) >= self.size + HEAD and not self.is_faulty:
             kind, length = data[self.size:self.size + 1], int.from_bytes(data[self.size + 1:self.size + HEAD], "big")
             frame = data[self.size:self.size + 1 + length]
-            self.is_faulty = not 4 <= length <= LONGEST_FRAME
+            self.is_faulty = not 4 <= length <= MAX_FRAME
             is_whole = len(frame) == 1 + length
-            waits = kind == b"Z" and length == 5 or kind == b"S" and length <= 4 + LONGEST_STATUS
+            waits = kind == b"Z" and length == 5 or kind == b"S" and length <= 4 + MAX_STATUS
             if self.is_faulty or waits and not is_whole:
                 break
             self.size += len(frame)

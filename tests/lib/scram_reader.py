@@ -8,8 +8,8 @@ import unicodedata
 
 from wire import MECHANISM
 
-LONGEST_NONCE, LONGEST_JOINT, LONGEST_SALT = 128, 192, 64
-MOST_ROUNDS, MOST_KEPT = 1_000_000, 2**31 - 1
+MAX_NONCE, MAX_JOINT, MAX_SALT = 128, 192, 64
+MAX_ROUNDS, MAX_KEPT = 1_000_000, 2**31 - 1
 
 
 # ---- passwords
@@ -90,7 +90,7 @@ def within(text, low, high):
 
 def salt_in(text):
     data = strict(text)
-    return data if data and len(data) <= LONGEST_SALT else None
+    return data if data and len(data) <= MAX_SALT else None
 
 
 def key_in(text):
@@ -109,14 +109,14 @@ def verifier(text):
     stored, last, server = rest.partition(b":")
     if front != MECHANISM or not (mark and colon and second and last):
         return None
-    return [within(rounds, 1, MOST_KEPT), salt_in(salt), key_in(stored), key_in(server)]
+    return [within(rounds, 1, MAX_KEPT), salt_in(salt), key_in(stored), key_in(server)]
 
 
 def first(text):
     header, bare = text[:3], text[3:]
     name, _, rest = bare.partition(b",")
     nonce = value(b"r", rest.partition(b",")[0])
-    if header not in (b"n,,", b"y,,") or value(b"n", name) is None or not nonce or len(nonce) > LONGEST_NONCE:
+    if header not in (b"n,,", b"y,,") or value(b"n", name) is None or not nonce or len(nonce) > MAX_NONCE:
         return None
     return [header, bare, nonce] if all(33 <= it <= 126 for it in nonce) else None
 
@@ -126,9 +126,9 @@ def challenge(own, text):
     if len(parts) < 3:
         return None
     nonce, salt, rounds = (value(letter, part) for letter, part in zip((b"r", b"s", b"i"), parts))
-    if None in (nonce, salt, rounds) or not nonce.startswith(own) or not len(own) < len(nonce) <= LONGEST_JOINT:
+    if None in (nonce, salt, rounds) or not nonce.startswith(own) or not len(own) < len(nonce) <= MAX_JOINT:
         return None
-    return [nonce, salt_in(salt), within(rounds, 1, MOST_ROUNDS)]
+    return [nonce, salt_in(salt), within(rounds, 1, MAX_ROUNDS)]
 
 
 def last(header, nonce, text):

@@ -23,7 +23,7 @@ LINKS = 4
 # a connection has a socket and what waits for it, and the pooler some files of its own
 FILES_EACH, FILES_MORE = 2, 100
 # so many threads that wait for a connection are kept
-MOST_WAITING = 8
+MAX_WAITING = 8
 SLOWEST = 5.0
 SEED = 20261123
 
@@ -132,14 +132,14 @@ class Abuse(Show):
         threads = self.pooler.threads()
         self.serves("at first")
         more = self.pooler.threads() - threads
-        self.passes.holds("clients one after another: a thread that is done serves the next", more <= MOST_WAITING, f"{more} threads more")
+        self.passes.holds("clients one after another: a thread that is done serves the next", more <= MAX_WAITING, f"{more} threads more")
         files, threads = self.pooler.files(), self.pooler.threads()
         for step in (self.idles, self.half, self.rubbish, self.cut):
             step()
             # a link stays in the pool, and may be another one now
             # threads beyond those that wait for a connection end after ten seconds
             back = until(lambda: self.pooler.files() <= files + LINKS and self.pooler.has_its_polls() and self.pooler.threads() <= threads
-                         + MOST_WAITING, 30)
+                         + MAX_WAITING, 30)
             self.passes.holds(f"{step.__name__}: no file and no thread is lost", back,
                               f"{self.pooler.files()} files for {files}, {self.pooler.threads()} threads for {threads}")
             links = until(lambda: len(self.cluster.backends()) <= LINKS, 10)

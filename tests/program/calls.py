@@ -22,11 +22,11 @@ QUERIES, CONNECTIONS = 500, 100
 # seconds in which nothing is asked
 IDLE = 3
 # a read, a write and a wait for each of the two messages
-MOST_A_QUERY = 6.2
-MOST_VAIN_A_QUERY = 0.02
-MOST_A_CONNECTION = 34.0
+MAX_A_QUERY = 6.2
+MAX_VAIN_A_QUERY = 0.02
+MAX_A_CONNECTION = 34.0
 # a worker may look for the first packet before it has come
-MOST_VAIN_A_CONNECTION = 1.1
+MAX_VAIN_A_CONNECTION = 1.1
 
 
 class Counts:
@@ -66,8 +66,8 @@ def queries(passes, place, pooler):
     client.leave()
     each, vain = counts.all(idle) / QUERIES, counts.vain() / QUERIES
     print(f"a query: {each:.2f} calls, {vain:.3f} of them in vain; {counts.calls}")
-    passes.holds(f"a query costs at most {MOST_A_QUERY} calls", each <= MOST_A_QUERY, f"{each:.2f}")
-    passes.holds("none of its reads and writes is in vain", vain <= MOST_VAIN_A_QUERY, f"{vain:.3f}")
+    passes.holds(f"a query costs at most {MAX_A_QUERY} calls", each <= MAX_A_QUERY, f"{each:.2f}")
+    passes.holds("none of its reads and writes is in vain", vain <= MAX_VAIN_A_QUERY, f"{vain:.3f}")
     return idle
 
 
@@ -86,10 +86,10 @@ def connections(passes, place, pooler, idle, most):
     each, vain = counts.all(idle) / CONNECTIONS, counts.vain() / CONNECTIONS
     print(f"a connection with one query: {each:.2f} calls, {vain:.2f} of them in vain; {counts.calls}")
     passes.holds(f"a connection with one query costs at most {most} calls", each <= most, f"{each:.2f}")
-    passes.holds(f"at most {MOST_VAIN_A_CONNECTION} of its reads and writes are in vain", vain <= MOST_VAIN_A_CONNECTION, f"{vain:.2f}")
+    passes.holds(f"at most {MAX_VAIN_A_CONNECTION} of its reads and writes are in vain", vain <= MAX_VAIN_A_CONNECTION, f"{vain:.2f}")
 
 
-def main(program, most=MOST_A_CONNECTION):
+def main(program, most=MAX_A_CONNECTION):
     set_up()
     need(["strace"], ["strace"])
     if not may_trace():

@@ -31,7 +31,7 @@ LONG = "SELECT pg_sleep(30)"
 BUSY = "SELECT count(*) FROM pg_stat_activity WHERE query LIKE '%pg_sleep(30)%' AND state = 'active' AND pid <> pg_backend_pid()"
 ASKS_TLS = (8).to_bytes(4, "big") + (80877103).to_bytes(4, "big")
 # in the best of some tries, of which there are more where the machine is busy; and in any
-SOON, LATEST, TRIES, MOST_TRIES = 0.2, 5.0, 5, 40
+SOON, LATEST, TRIES, MAX_TRIES = 0.2, 5.0, 5, 40
 # each of so many threads sends so many cancels, and then one in so many seconds until it is told to end
 WORKERS, WRONG, FLOODS, FLOOD, PAUSE = 8, 1_000, 8, 250, 0.02
 # so many late cancels, in pools of one link each, of these users; each comes at a moment of a span, in whose midst its statement ends
@@ -292,7 +292,7 @@ class Cancels(Show):
 
     def goes_on(self, times):
         """Whether there is one more try."""
-        return len(times) < TRIES or (min(times) >= SOON and len(times) < MOST_TRIES)
+        return len(times) < TRIES or (min(times) >= SOON and len(times) < MAX_TRIES)
 
     def in_time(self, name, times):
         shown = ", ".join(f"{1000 * seconds:.0f}" for seconds in times)

@@ -27,7 +27,7 @@ SEED, COUNT = 1, 500
 # of fewer conversations not every kind of answer is asked for
 ENOUGH = 300
 # so many failures are told
-MOST_TOLD = 3
+MAX_TOLD = 3
 STRUCK, FAULTY = "E 57014", "E 08P01"
 
 
@@ -178,7 +178,7 @@ def main():
     with ThreadPoolExecutor(WORKERS) as pool:
         found = list(pool.map(lambda talk: played(programs, talk), talks))
     failed = [(it, talk, fault) for it, talk, (fault, _) in zip(seeds, talks, found) if fault]
-    for it in failed[:MOST_TOLD]:
+    for it in failed[:MAX_TOLD]:
         tell(programs, *it)
     met = {name: sum(bool(re.search(pattern, "\n".join(lines), re.M)) for _, lines in found) for name, pattern in MET.items()}
     missed = [name for name in met if not met[name]] if count >= ENOUGH else []

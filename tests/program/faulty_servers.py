@@ -26,7 +26,7 @@ from cluster import HERE, USERS, Stub, until
 from given import UNREACHED, authentication, borders, fatal
 from listening import Listener
 from passes import Show, play
-from plain_reader import IDLE, IN_RESET, IN_START, LONGEST_STATUS, MORE, OK, TAG, Wanted, is_clean, started, status
+from plain_reader import IDLE, IN_RESET, IN_START, MAX_STATUS, MORE, OK, TAG, Wanted, is_clean, started, status
 from wire import RESET, TERMINATE, Client, Cut, Refused, md5_answer, message, packet, query, startup
 from worked import CATALOGUE, SERVER_KEY, STARTED, differs
 
@@ -36,9 +36,9 @@ LANES = 6
 GIVEN_UP = (14, 120)
 SLOWEST = 5.0
 # at rest: who accepts, the clock, the log, who derives keys, and those that wait for a connection; others end after ten seconds
-MOST_THREADS = 4 + 8
+MAX_THREADS = 4 + 8
 # its memory has at most so many parts after thousands of threads; each that was never joined would keep two
-MOST_MAPS = 1_500
+MAX_MAPS = 1_500
 REST = 0.002
 # answers with long messages, round the borders of the relay's buffers and of what goes on only whole
 LONG, SEED = 300, 20261127
@@ -81,7 +81,7 @@ STRANGE = {
     "a report of an unknown name": status(b"unknown", b"1"),
     "a report without its last zero": message(b"S", b"TimeZone\0UTC"),
     "a report with a byte too many": message(b"S", b"TimeZone\0UTC\0\0"),
-    "a report too long": status(b"TimeZone", bytes([65]) * LONGEST_STATUS),
+    "a report too long": status(b"TimeZone", bytes([65]) * MAX_STATUS),
     "a report of another value": status(b"TimeZone", b"A"),
     "a key too short": message(b"K", bytes(4)),
     "a key too long": message(b"K", bytes(12)),
@@ -438,7 +438,7 @@ class FaultyServers(Show):
     def files_at_rest(self):
         """How many files the pooler has open once a client has come and gone."""
         Client(self.pooler.port, "root", "pgbouncer").leave()
-        until(lambda: self.pooler.threads() <= MOST_THREADS, 25)
+        until(lambda: self.pooler.threads() <= MAX_THREADS, 25)
         counts = [0, -1]
 
         def is_steady():
@@ -467,7 +467,7 @@ class FaultyServers(Show):
                           f"{self.server.open} for {idle - 2}")
         clients_came = sum(map(len, self.groups.values()))
         maps = self.pooler.maps()
-        self.passes.holds(f"the memory of {clients_came} cases' threads is given back: {maps} parts of it", maps < MOST_MAPS < clients_came,
+        self.passes.holds(f"the memory of {clients_came} cases' threads is given back: {maps} parts of it", maps < MAX_MAPS < clients_came,
                           f"{maps} parts")
         self.passes.holds("no file is left open", until(lambda: self.pooler.files() == files + idle, 10),
                           f"{self.pooler.files()} for {files + idle}")

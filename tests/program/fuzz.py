@@ -29,7 +29,7 @@ SEED, COUNT = 1, 1_000
 GARBLED = 0.3
 CLIENTS, LINKS = 8, 2
 ALONE = 5
-MOST_TOLD = 3
+MAX_TOLD = 3
 
 
 def garbled(said, chance):
@@ -99,7 +99,7 @@ def main():
         with ThreadPoolExecutor(CLIENTS) as pool:
             found = list(pool.map(lambda it: (it, fuzz.fault(it, talk_of(it))), seeds))
         failed = [(it, fault) for it, fault in found if fault]
-        for it, fault in failed[:MOST_TOLD]:
+        for it, fault in failed[:MAX_TOLD]:
             fuzz.tell(it, fault)
         left = rest_of(pooler.port)
         if left:

@@ -17,8 +17,8 @@ sys.path.insert(0, str(pathlib.Path(__file__).resolve().parents[1] / "lib"))
 from cluster import HERE, TOP, Cluster, free_port, is_open, until
 from passes import Show, play
 
-MOST_LINES = 120
-MOST_BYTES = 9 * 1024
+MAX_LINES = 120
+MAX_BYTES = 9 * 1024
 SECRETS = {"ann": "secret", "root": "r"}
 
 
@@ -167,8 +167,8 @@ def names(passes, page, program):
     passes.same("every file that the page leads to is there", missing, [])
     passes.same("no page leads nowhere", dead_links(), [])
     passes.same("each decision that is cited is there, once", wrong_ids(), [])
-    size = (page.text.count("\n") <= MOST_LINES, len(page.text.encode()) <= MOST_BYTES)
-    passes.same(f"the page has at most {MOST_LINES} lines and {MOST_BYTES} bytes", size, (True, True))
+    size = (page.text.count("\n") <= MAX_LINES, len(page.text.encode()) <= MAX_BYTES)
+    passes.same(f"the page has at most {MAX_LINES} lines and {MAX_BYTES} bytes", size, (True, True))
 
 
 class Readme(Show):

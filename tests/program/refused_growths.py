@@ -33,11 +33,11 @@ SECONDS = 20
 # a client to whom growths are refused waits no longer
 PATIENCE = 5
 # the pooler's query_wait_timeout
-LONGEST_WAIT = 5
+MAX_WAIT = 5
 FOR_EVER = 1 << 62
 WAYS = {"one": 1, "four": 4, "all from one on": FOR_EVER}
 # each scenario refuses so many at least, and ends before so many
-FEWEST, MOST, MOST_TOLD = 5, 2_000, 3
+FEWEST, MOST, MAX_TOLD = 5, 2_000, 3
 OK = GIVEN["ok"]
 # the log counts what is closed without a byte once a second
 LOG_SECONDS = 10
@@ -49,7 +49,7 @@ TALK = [query("SHOW application_name"), query("CREATE TEMP TABLE t (a text)"), q
         query("SELECT name FROM city")]
 CONSOLE = [query(text) for text in ("SHOW CONFIG", "SHOW POOLS", "RELOAD", "SHOW DATABASES")]
 # at rest: who accepts, the clock, the log, who derives keys, and those that wait for a connection
-MOST_THREADS = 4 + 8
+MAX_THREADS = 4 + 8
 
 
 class Counted(Page):
@@ -158,7 +158,7 @@ class Growths:
         self.pages = {name: Counted(self.place, name, 4) for name in ("serve", "stub")}
         words = {name: preloaded(self.place, name, library, page, program) for name, page in self.pages.items()}
         self.stub = Stub(self.place, words["stub"], pathlib.Path(CATALOGUE).read_bytes())
-        self.pooler = Pooler(self.place, self.stub, words["serve"], size=1, clients=2, links=1, wait=LONGEST_WAIT, auth=auth)
+        self.pooler = Pooler(self.place, self.stub, words["serve"], size=1, clients=2, links=1, wait=MAX_WAIT, auth=auth)
         self.by_md5 = auth == "md5"
         self.exact = ASKED + bytes(4) + exact if self.by_md5 else exact
         self.files = [FOR_EVER, FOR_EVER]
@@ -228,7 +228,7 @@ class Growths:
     def is_at_rest(self):
         """Each connection is done: no more files are open than those of the one link, and a poll for each thread that is kept."""
         return until(lambda: all(now <= was for now, was in zip(self.files_now(), self.files)) and self.has_its_polls()
-                     and self.pooler.threads() <= MOST_THREADS, SECONDS)
+                     and self.pooler.threads() <= MAX_THREADS, SECONDS)
 
     def has_its_polls(self):
         """No thread has more than one."""
@@ -322,7 +322,7 @@ class Sweep:
                 refused, fault = self.fault(first, count)
                 if fault:
                     faults.append(f"{way}, {first}: {fault}")
-                if not refused or len(faults) == MOST_TOLD:
+                if not refused or len(faults) == MAX_TOLD:
                     break
             if first <= FEWEST or first == MOST - 1:
                 faults.append(f"{way}: {first - 1} growths were refused")
@@ -420,7 +420,7 @@ class RefusedGrowths(Show):
         self.runs += sweep.runs
         self.passes.tell(f"{name}: {sweep.runs} runs with {sweep.refused} growths refused, of which {sweep.served} were served all the "
                          f"same "
-                         f"({time.monotonic() - start:.0f} s)", f"{faults[:MOST_TOLD]}" if faults else "")
+                         f"({time.monotonic() - start:.0f} s)", f"{faults[:MAX_TOLD]}" if faults else "")
         return not faults
 
     def causes(self, growths):

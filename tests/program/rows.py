@@ -15,7 +15,7 @@ from given import GIVEN, refusal
 from passes import Passes, words
 from worked import CATALOGUE, ROWS, START, differs, fault_of, is_struck, run
 
-LONGEST_CUT = 200
+MAX_CUT = 200
 
 
 def whole(program, given, wanted):
@@ -75,7 +75,7 @@ class Rows:
         """The conversation of a file: the whole of it, and where it is short its fronts."""
         given, wanted = file.read_bytes(), file.with_suffix(".out").read_bytes()
         fault = whole(self.program, given, wanted)
-        if not fault and len(given) <= LONGEST_CUT:
+        if not fault and len(given) <= MAX_CUT:
             answers, fault = cut(self.program, given, wanted)
             self.fronts += len(answers)
             if not fault and given.startswith(START):

@@ -18,7 +18,7 @@ import sys
 sys.path.insert(0, str(pathlib.Path(__file__).resolve().parents[1] / "lib"))
 from cluster import Cluster, Place, set_up
 from passes import words
-from scram_reader import (MOST_KEPT, MOST_ROUNDS, another, challenge, digest, exchange, first, initial, keys, last, mac, prepared, salted,
+from scram_reader import (MAX_KEPT, MAX_ROUNDS, another, challenge, digest, exchange, first, initial, keys, last, mac, prepared, salted,
                           verifier)
 from wire import ASKS_SASL, CONTINUES, ENDS, MECHANISM, Client, Refused, Strange, message, startup
 
@@ -102,7 +102,7 @@ def texts(chance):
     """A verifier, each message that is read, and a frame, most of them spoiled."""
     encoded = {size: base64.b64encode(data(chance, size)) for size in (0, 1, 16, 31, 32, 33, 64, 65)}
     short, long = (encoded[chance.choice(sizes)] for sizes in ((0, 1, 16, 64, 65), (32, 32, 32, 31, 33)))
-    text = spoiled(chance, b"%s$%d:%s$%s:%s" % (MECHANISM, chance.choice((1, 4096, 0, MOST_KEPT, MOST_KEPT + 1)), short, long, encoded[32]))
+    text = spoiled(chance, b"%s$%d:%s$%s:%s" % (MECHANISM, chance.choice((1, 4096, 0, MAX_KEPT, MAX_KEPT + 1)), short, long, encoded[32]))
     yield ("verifier", text), verifier(text)
     nonce = printing(chance, chance.choice((0, 1, 24, 127, 128, 129)))
     header = chance.choice((b"n,,", b"y,,", b"p=tls-unique,,", b"n,a=ann,", b"n,"))
@@ -110,7 +110,7 @@ def texts(chance):
                    + chance.choice((b"", b",x=1", b",")))
     yield ("first", text), first(text)
     own = printing(chance, 24)
-    rounds = chance.choice((0, 1, 4096, MOST_ROUNDS, MOST_ROUNDS + 1, 4_000_000_000))
+    rounds = chance.choice((0, 1, 4096, MAX_ROUNDS, MAX_ROUNDS + 1, 4_000_000_000))
     text = spoiled(chance, b"r=%s%s,s=%s,i=%d" % (own, printing(chance, chance.choice((0, 1, 24, 168, 169))), short, rounds))
     yield ("challenge", own, text), challenge(own, text)
     joint, header = printing(chance, 48), chance.choice((b"n,,", b"y,,"))

@@ -20,7 +20,7 @@ from wire import message
 
 SECONDS = 60
 # the bytes behind the code of the longest first packet
-LONGEST_STARTUP = 10_000 - 8
+MAX_STARTUP = 10_000 - 8
 # bodies of more bytes are changed and cut at so many of the first and of the last ones alone
 FEW = 200
 
@@ -212,7 +212,7 @@ def bodies():
     for folder in ("tests/rows", "tests/clients"):
         for file in sorted((TOP / folder).glob("*.in")):
             started, rest = behind_first(file.read_bytes())
-            found += [(("first", b""), it) for it in started if len(it) <= LONGEST_STARTUP] + frames_of("client", rest)
+            found += [(("first", b""), it) for it in started if len(it) <= MAX_STARTUP] + frames_of("client", rest)
         for file in sorted((TOP / folder).glob("*.out")):
             found += frames_of("server", answers(file.read_bytes()))
     return [it for it in dict.fromkeys(found) if it[0] in READERS]

@@ -24,9 +24,9 @@ SECONDS = 20
 # its clock is read once a second, so in so many refusals it has come back to it
 REFUSALS = 3
 # what it may take of a processor meanwhile, in seconds: it waits for each second
-MOST_USED = 0.5
+MAX_USED = 0.5
 # a last word is tried once a second; in so many seconds so often at least, and at most
-TRIED, FEWEST_TRIES, MOST_TRIES = 6, 4, 9
+TRIED, FEWEST_TRIES, MAX_TRIES = 6, 4, 9
 
 
 class Calls(Page):
@@ -111,7 +111,7 @@ class Wants(Show):
         self.passes.holds(f"{what}: it is tried again, second for second", tried)
         until(lambda: self.times_untimed() > untimed, SECONDS)
         self.passes.same(f"{what}: the log says once that no limit of time holds", self.times_untimed() - untimed, 1)
-        self.passes.holds(f"{what}: that takes no processor", used < MOST_USED, f"{used:.2f} s")
+        self.passes.holds(f"{what}: that takes no processor", used < MAX_USED, f"{used:.2f} s")
         self.passes.same(f"{what}: no link is closed by it", self.server.ended, 0)
         client = Client(self.pooler.port, "ann", "shop", USERS["ann"][0], seconds=SECONDS)
         self.page.refuse()
@@ -132,7 +132,7 @@ class Wants(Show):
         time.sleep(TRIED)
         tries = self.page.refused()[2]
         self.passes.holds(f"a last word that isn't taken is tried once a second: {tries} times in {TRIED} s",
-                          FEWEST_TRIES <= tries <= MOST_TRIES)
+                          FEWEST_TRIES <= tries <= MAX_TRIES)
         self.page.refuse()
         try:
             told = client.until(b"Z")

@@ -223,12 +223,12 @@ fn names_of_a_list(rt: HostRuntime) -> Result<(), Fail> {
 }
 
 /// A label of 63 bytes, a folder of 92 and a list of 255: the longest.
-const LONGEST_LABEL: &str = "aaaaaaaaaaaaaaaaaaaaaaaaaaaaaaaaaaaaaaaaaaaaaaaaaaaaaaaaaaaaaaa";
+const MAX_LABEL: &str = "aaaaaaaaaaaaaaaaaaaaaaaaaaaaaaaaaaaaaaaaaaaaaaaaaaaaaaaaaaaaaaa";
 
-const LONGEST_FOLDER: &str =
+const MAX_FOLDER: &str =
     "/fffffffffffffffffffffffffffffffffffffffffffffffffffffffffffffffffffffffffffffffffffffffffff";
 
-const LONGEST_LIST: &str =
+const MAX_LIST: &str =
     "a,a,a,a,a,a,a,a,a,a,a,a,a,a,a,a,a,a,a,a,a,a,a,a,a,a,a,a,a,a,a,a,a,a,a,a,a,a,a,a,a,a,a,a,a,a,a,a,a,a,a,a,a,a,a,a,a,a,a,a,a,a,a,a,a,a,a,a,a,a,a,a,a,a,a,a,a,a,a,a,a,a,a,a,a,a,a,a,a,a,a,a,a,a,a,a,a,a,a,a,a,a,a,a,a,a,a,a,a,a,a,a,a,a,a,a,a,a,a,a,a,a,a,a,a,a,a,a";
 
 #[test]
@@ -245,9 +245,9 @@ fn hosts_of_rows(rt: HostRuntime) -> Result<(), Fail> {
         ("1und1.de", "1und1.de"),
         ("/var/run/postgresql", "/var/run/postgresql"),
         ("a,::1,/tmp,10.0.0.1", "a,::1,/tmp,10.0.0.1"),
-        (LONGEST_LABEL, LONGEST_LABEL),
-        (LONGEST_FOLDER, LONGEST_FOLDER),
-        (LONGEST_LIST, LONGEST_LIST),
+        (MAX_LABEL, MAX_LABEL),
+        (MAX_FOLDER, MAX_FOLDER),
+        (MAX_LIST, MAX_LIST),
     ];
     for (said, kept) in hosts {
         let text = format!(in rt.alloc(); "[databases]\nx = host={said}")?;
@@ -294,10 +294,10 @@ fn users_of_rows(rt: HostRuntime) -> Result<(), Fail> {
 fn the_row_of_a_star(rt: HostRuntime) -> Result<(), Fail> {
     let text = b"[databases]\n* = host=db port=6000\nshop = host=::1";
     let settings = read_settings(rt.alloc(), text)?;
-    let label = LONGEST_LABEL.as_bytes();
+    let label = MAX_LABEL.as_bytes();
     assert!(rt; has_row(&settings, b"shop", b"::1", 5432, b"shop"));
     assert!(rt; has_row(&settings, label, b"db", 6000, label));
-    let others: [&[u8]; 3] = [b"", b"a\0b", &LONGEST_LIST.as_bytes()[..64]];
+    let others: [&[u8]; 3] = [b"", b"a\0b", &MAX_LIST.as_bytes()[..64]];
     for name in others {
         assert!(rt; settings.row(name).is_none());
     }

@@ -15,7 +15,7 @@ use Rattle.book_model.specs.declared.counts.Kind.TheVariants.{Arrival, ArrivalRe
 use Rattle.book_model.specs.declared.events.Beyond.{Beyond}
 use Rattle.book_model.specs.declared.events.Beyond.TheVariants.{Nothing, Console, LocalConsole}
 use Rattle.book_model.specs.declared.events.ClientState.TheVariants.{LoggingIn, Waiting, Active}
-use Rattle.book_model.specs.declared.limits.TheConstants.{MOST_PRESENT}
+use Rattle.book_model.specs.declared.limits.TheConstants.{MAX_PRESENT}
 use Rattle.book_model.specs.Kept.{FitsLimits, Kept, KeptClients, KeptFresh, KeptLimits, LatestFreshIsLent}
 use Rattle.book_model.proofs.KeepingLists.{any_counts, found_any, found_counts, last_counts, none_counts, not_found}
 use Rattle.book_model.proofs.KeepingClients.{client_comes, client_goes, state_changes, ticket_comes, ticket_goes}
@@ -48,7 +48,7 @@ arrives_keeps b beyond h =
     refused : (refusal : Refusal) → Kept (counted b (Some ArrivalRefused))
     refused refusal = record { clients = h.clients; links = h.links; fresh = h.fresh; leases = h.leases; counts = counts_stay ArrivalRefused b b refl refl refl h.counts; limits = h.limits }
 
-    fits : length b.clients < b.limits.max_clients + places_beyond beyond → length b.clients < MOST_PRESENT
+    fits : length b.clients < b.limits.max_clients + places_beyond beyond → length b.clients < MAX_PRESENT
     fits few = omega (arith, few, few_places beyond, h.limits.clients)
 
     room : nat_lt (length b.clients) (b.limits.max_clients + places_beyond beyond) ≡ true → Kept (counted (record b { clients = b.clients ++ record { number = b.next_client; state = LoggingIn } ∷ []; next_client = suc b.next_client }) (Some Arrival))

@@ -4,11 +4,11 @@ use Rattle.std.proofs.lemmas.List.{length-map, length_push}
 use Rattle.book_model.specs.Book.{Client, Ticket, is_client, is_of, without_client, without_ticket}
 use Rattle.book_model.specs.Outcomes.{in_state}
 use Rattle.book_model.specs.declared.events.ClientState.{ClientState}
-use Rattle.book_model.specs.declared.limits.TheConstants.{MOST_PRESENT}
+use Rattle.book_model.specs.declared.limits.TheConstants.{MAX_PRESENT}
 use Rattle.book_model.specs.Kept.{KeptClients}
 use Rattle.book_model.proofs.KeepingLists.{as_long, longer, fewer_left, left_out, length_left, numbers_stay, one_more}
 
-pub client_comes : (cs : List Client) (ts : List Ticket) (next : ℕ) (c : Client) → c.number ≡ next → length cs < MOST_PRESENT → KeptClients cs ts next → KeptClients (cs ++ c ∷ []) ts (suc next)
+pub client_comes : (cs : List Client) (ts : List Ticket) (next : ℕ) (c : Client) → c.number ≡ next → length cs < MAX_PRESENT → KeptClients cs ts next → KeptClients (cs ++ c ∷ []) ts (suc next)
 client_comes cs ts next c e room h = record {
   fit = omega (arith, length_push cs c, room);
   once = λ n. once n (c.number == n) refl;

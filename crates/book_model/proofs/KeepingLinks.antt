@@ -2,7 +2,7 @@
 use Rattle.std.proofs.Common.{◌≡◌, ℕ, suc, ◌+◌, ◌≤◌, ◌<◌, Bool, true, false, not, List, [], ◌∷◌, ◌++◌, length, count_by, refl, sym, ◌∙◌, subst, arith, le_of_eq, ◌==◌, eqb-true}
 use Rattle.std.proofs.lemmas.List.{length_push}
 use Rattle.book_model.specs.Book.{Link, is_link, without}
-use Rattle.book_model.specs.declared.limits.TheConstants.{MOST_LINKS}
+use Rattle.book_model.specs.declared.limits.TheConstants.{MAX_LINKS}
 use Rattle.book_model.specs.Kept.{KeptLinks}
 use Rattle.book_model.proofs.KeepingLists.{fewer_left, left_out, length_left, one_more}
 
@@ -20,7 +20,7 @@ lent_goes k lent idle next h = record {
   fresh = λ n l. omega (arith, fewer_left (is_link n) (λ l. not (is_link k l)) lent, h.fresh n l);
 }
 
-pub link_starts : (lent idle : List Link) (next : ℕ) (link : Link) → link.number ≡ next → length lent + length idle < MOST_LINKS → KeptLinks lent idle next → KeptLinks (lent ++ link ∷ []) idle (suc next)
+pub link_starts : (lent idle : List Link) (next : ℕ) (link : Link) → link.number ≡ next → length lent + length idle < MAX_LINKS → KeptLinks lent idle next → KeptLinks (lent ++ link ∷ []) idle (suc next)
 link_starts lent idle next link e room h = record {
   fit = omega (arith, length_push lent link, room);
   once = λ n. once n (link.number == n) refl;
@@ -36,7 +36,7 @@ link_starts lent idle next link e room h = record {
     fresh n l false f = omega (arith, one_more (is_link n) lent link false f, h.fresh n (omega (arith, l)))
 
 -- a link that stands on one side goes to the other
-crosses : (from to : List Link) (next : ℕ) (link : Link) → 1 ≤ count_by (is_link link.number) from → ((n : ℕ) → count_by (is_link n) from + count_by (is_link n) to ≤ 1) → ((n : ℕ) → next ≤ n → count_by (is_link n) from + count_by (is_link n) to ≡ 0) → length from + length to ≤ MOST_LINKS → (length (without link.number from) + length (to ++ link ∷ []) ≤ MOST_LINKS) × ((n : ℕ) → count_by (is_link n) (without link.number from) + count_by (is_link n) (to ++ link ∷ []) ≤ 1) × ((n : ℕ) → next ≤ n → count_by (is_link n) (without link.number from) + count_by (is_link n) (to ++ link ∷ []) ≡ 0)
+crosses : (from to : List Link) (next : ℕ) (link : Link) → 1 ≤ count_by (is_link link.number) from → ((n : ℕ) → count_by (is_link n) from + count_by (is_link n) to ≤ 1) → ((n : ℕ) → next ≤ n → count_by (is_link n) from + count_by (is_link n) to ≡ 0) → length from + length to ≤ MAX_LINKS → (length (without link.number from) + length (to ++ link ∷ []) ≤ MAX_LINKS) × ((n : ℕ) → count_by (is_link n) (without link.number from) + count_by (is_link n) (to ++ link ∷ []) ≤ 1) × ((n : ℕ) → next ≤ n → count_by (is_link n) (without link.number from) + count_by (is_link n) (to ++ link ∷ []) ≡ 0)
 crosses from to next link there once fresh fit = (omega (arith, length_left (is_link link.number) from, length_push to link, there, fit), λ n. omega (arith, same n (link.number == n) refl, once n), λ n l. omega (arith, same n (link.number == n) refl, fresh n l))
   where
     same : (n : ℕ) (b : Bool) → (link.number == n) ≡ b → count_by (is_link n) (without link.number from) + count_by (is_link n) (to ++ link ∷ []) ≤ count_by (is_link n) from + count_by (is_link n) to

@@ -7,18 +7,18 @@ use Rattle.book_model.specs.Outcomes.{Event, apply, apply_return}
 use Rattle.book_model.specs.Outcomes.Change.{NewLimits}
 use Rattle.book_model.specs.Outcomes.Event.{Makes}
 use Rattle.book_model.specs.declared.counts.Counts.{Counts}
-use Rattle.book_model.specs.declared.limits.TheConstants.{MOST_CLIENTS, MOST_LINKS, MOST_PRESENT}
+use Rattle.book_model.specs.declared.limits.TheConstants.{MAX_CLIENTS, MAX_LINKS, MAX_PRESENT}
 
 -- each client number stands once and below the next, and each ticket is its client's only one
 pub record KeptClients (clients : List Client) (tickets : List Ticket) (next : ℕ) : Type 0 where
-  pub fit : length clients ≤ MOST_PRESENT
+  pub fit : length clients ≤ MAX_PRESENT
   pub once : (n : ℕ) → count_by (is_client n) clients ≤ 1
   pub fresh : (n : ℕ) → next ≤ n → count_by (is_client n) clients ≡ 0
   pub of_clients : (n : ℕ) → count_by (is_of n) tickets ≤ count_by (is_client n) clients
 
 -- each link number stands once, lent or idle, and below the next
 pub record KeptLinks (lent idle : List Link) (next : ℕ) : Type 0 where
-  pub fit : length lent + length idle ≤ MOST_LINKS
+  pub fit : length lent + length idle ≤ MAX_LINKS
   pub once : (n : ℕ) → count_by (is_link n) lent + count_by (is_link n) idle ≤ 1
   pub fresh : (n : ℕ) → next ≤ n → count_by (is_link n) lent + count_by (is_link n) idle ≡ 0
 
@@ -57,8 +57,8 @@ pub record KeptCounts (b : Book) : Type 0 where
   pub lent : length b.lent + b.counts.given_back + b.losses ≡ b.counts.granted
 
 pub record KeptLimits (l : Limits) : Type 0 where
-  pub clients : l.max_clients ≤ MOST_CLIENTS
-  pub links : l.max_links ≤ MOST_LINKS
+  pub clients : l.max_clients ≤ MAX_CLIENTS
+  pub links : l.max_links ≤ MAX_LINKS
 
 -- new limits fit, too
 abbrev pub FitsLimits : Event → Type 0

@@ -7,13 +7,13 @@ use start_keys::StartKey;
 use std::marker::Model;
 
 /// The most clients that may be there at once, but for those of the console.
-pub const MOST_CLIENTS: u32 = 10_000;
+pub const MAX_CLIENTS: u32 = 10_000;
 
 /// The most clients that a book can hold: with those of the console.
-pub const MOST_PRESENT: u32 = 10_080;
+pub const MAX_PRESENT: u32 = 10_080;
 
 /// The most links that a book can hold, lent and idle together.
-pub const MOST_LINKS: u32 = 10_000;
+pub const MAX_LINKS: u32 = 10_000;
 
 /// The settings that the lease book decides by, with PgBouncer's names. Times are in seconds.
 pub struct Limits {
@@ -50,7 +50,7 @@ impl Drop for Limits {
 impl Model for Limits {
     ghost use Rattle.std.specs.Prelude.{◌≤◌};
     ghost use Rattle.book_model.specs.Book.{Limits as LimitsOf};
-    ghost use Rattle.book_model.specs.declared.limits.TheConstants.{MOST_CLIENTS, MOST_LINKS};
+    ghost use Rattle.book_model.specs.declared.limits.TheConstants.{MAX_CLIENTS, MAX_LINKS};
 
     ghost Value = { LimitsOf };
 
@@ -64,7 +64,7 @@ impl Model for Limits {
       idle_timeout = l.server_idle_timeout;
     } };
 
-    ghost invariant = { λ l. (l.max_client_conn ≤ MOST_CLIENTS) × (l.max_links ≤ MOST_LINKS) };
+    ghost invariant = { λ l. (l.max_client_conn ≤ MAX_CLIENTS) × (l.max_links ≤ MAX_LINKS) };
 }
 
 impl Limits {

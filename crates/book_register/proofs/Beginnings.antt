@@ -5,7 +5,7 @@ use Rattle.book_model.specs.Outcomes.{Event, apply}
 use Rattle.book_model.specs.declared.events.Beyond.{Beyond}
 use Rattle.book_model.specs.declared.events.Beyond.TheVariants.{Nothing, Console, LocalConsole}
 use Rattle.book_model.specs.declared.events.Reply.{Reply}
-use Rattle.book_model.specs.declared.limits.TheConstants.{MOST_PRESENT}
+use Rattle.book_model.specs.declared.limits.TheConstants.{MAX_PRESENT}
 use Rattle.book_register.specs.Choices.{Gives}
 use Rattle.book_register.specs.Counted.{counted_book}
 use Rattle.book_model.specs.Kept.{FitsLimits, Kept, KeptLimits}
@@ -31,5 +31,5 @@ few_places Nothing = omega arith
 few_places Console = omega arith
 few_places LocalConsole = omega arith
 
-pub may_come : (b : Book) (beyond : Beyond) → Kept b → nat_lt (length b.clients) (b.limits.max_clients + places_beyond beyond) ≡ true → length b.clients < MOST_PRESENT
+pub may_come : (b : Book) (beyond : Beyond) → Kept b → nat_lt (length b.clients) (b.limits.max_clients + places_beyond beyond) ≡ true → length b.clients < MAX_PRESENT
 may_come b beyond kept e = omega (arith, ltb-true _ _ e, few_places beyond, kept.limits.clients)

@@ -13,7 +13,7 @@ use Rattle.book_register.specs.Choices.{Gives}
 use Rattle.book_register.specs.Kinds.{kind_in, kinds_of}
 use Rattle.book_register.specs.declared.deciding.Kinds.{Kinds}
 use Rattle.book_model.specs.Kept.{Kept, KeptClients, KeptCounts, total}
-use Rattle.book_model.specs.declared.limits.TheConstants.{MOST_LINKS}
+use Rattle.book_model.specs.declared.limits.TheConstants.{MAX_LINKS}
 use Rattle.book_model.proofs.Changing.{with_any_settings}
 use Rattle.book_model.proofs.KeepingLists.{any_counts, longer, none_counts}
 
@@ -130,7 +130,7 @@ asker_has_room clients tickets next client kept e =
 
 -- ---- a lease that may be keyed is none yet, so there are fewer leases than lent links
 
-pub lease_has_room : (b : Book) (n : ℕ) → Kept b → (not (list_any (is_link n) b.lent) || (list_any (is_of_link n) b.keyed || list_any (is_number n) b.ended)) ≡ false → length b.keyed < MOST_LINKS
+pub lease_has_room : (b : Book) (n : ℕ) → Kept b → (not (list_any (is_link n) b.lent) || (list_any (is_of_link n) b.keyed || list_any (is_number n) b.ended)) ≡ false → length b.keyed < MAX_LINKS
 lease_has_room b n kept e = omega (arith, kept.links.fit, longer (λ (l : Lease). l.link) (λ (l : Link). l.number) n b.keyed b.lent kept.leases.keyed (none_counts (is_of_link n) b.keyed (first (list_any (is_of_link n) b.keyed) _ tested.1)) (any_counts (is_link n) b.lent tested.0))
   where
     tested : (list_any (is_link n) b.lent ≡ true) × ((list_any (is_of_link n) b.keyed || list_any (is_number n) b.ended) ≡ false)

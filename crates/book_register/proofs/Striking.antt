@@ -8,7 +8,7 @@ use Rattle.book_model.specs.Kept.{Kept}
 use Rattle.book_model.specs.Outcomes.{cancels, strikes, strikes_at}
 use Rattle.book_model.specs.declared.events.Reply.{Reply}
 use Rattle.book_model.specs.declared.events.Reply.TheVariants.{Strike, Nobody}
-use Rattle.book_model.specs.declared.limits.TheConstants.{MOST_LINKS}
+use Rattle.book_model.specs.declared.limits.TheConstants.{MAX_LINKS}
 use Rattle.book_model.proofs.KeepingLists.{any_counts, fewer_left, found_any, left_out, longer}
 use Rattle.book_register.specs.Striking.{strike_of}
 
@@ -24,7 +24,7 @@ pub one_end : (b : Book) → Kept b → (n : ℕ) → count_by (is_number n) b.e
 one_end b k n = omega (arith, k.leases.ended n, k.links.once n)
 
 -- beside a lent link's own, there are fewer numbers of lent links than there are of these
-others_fit : (b : Book) (n : ℕ) (numbers : List ℕ) → Kept b → ((m : ℕ) → count_by (is_number m) numbers ≤ count_by (is_link m) b.lent) → list_any (is_link n) b.lent ≡ true → length (without_number n numbers) < MOST_LINKS
+others_fit : (b : Book) (n : ℕ) (numbers : List ℕ) → Kept b → ((m : ℕ) → count_by (is_number m) numbers ≤ count_by (is_link m) b.lent) → list_any (is_link n) b.lent ≡ true → length (without_number n numbers) < MAX_LINKS
 others_fit b n numbers k fits there = omega (arith, k.links.fit, longer (λ (m : ℕ). m) (λ (l : Link). l.number) n (without_number n numbers) b.lent fewer none (any_counts (is_link n) b.lent there))
   where
     fewer : (m : ℕ) → count_by (is_number m) (without_number n numbers) ≤ count_by (is_link m) b.lent
@@ -33,10 +33,10 @@ others_fit b n numbers k fits there = omega (arith, k.links.fit, longer (λ (m :
     none : count_by (is_number n) (without_number n numbers) ≡ 0
     none = left_out (λ (m : ℕ). m) n n numbers true (eq-eqb n n refl)
 
-pub marks_fit : (b : Book) (n : ℕ) → Kept b → list_any (is_link n) b.lent ≡ true → length (without_number n b.marked) < MOST_LINKS
+pub marks_fit : (b : Book) (n : ℕ) → Kept b → list_any (is_link n) b.lent ≡ true → length (without_number n b.marked) < MAX_LINKS
 marks_fit b n k there = others_fit b n b.marked k k.leases.marked there
 
-pub ends_fit : (b : Book) (n : ℕ) → Kept b → list_any (is_link n) b.lent ≡ true → length (without_number n b.ended) < MOST_LINKS
+pub ends_fit : (b : Book) (n : ℕ) → Kept b → list_any (is_link n) b.lent ≡ true → length (without_number n b.ended) < MAX_LINKS
 ends_fit b n k there = others_fit b n b.ended k k.leases.ended there
 
 -- ---- a Cancel

@@ -12,7 +12,7 @@ use Rattle.book_model.specs.declared.events.Reply.TheVariants.{Queued, Refuse, S
 use Rattle.book_register.specs.Choices.{Chooses, Gives}
 use Rattle.book_register.specs.declared.book_state.Choice.TheVariants.{Lend, Start, Evict, Wait}
 use Rattle.book_model.specs.Kept.{Kept, KeptClients, KeptLinks}
-use Rattle.book_model.specs.declared.limits.TheConstants.{MOST_LINKS}
+use Rattle.book_model.specs.declared.limits.TheConstants.{MAX_LINKS}
 
 pub one_ticket : (clients : List Client) (tickets : List Ticket) (next : ℕ) → KeptClients clients tickets next → (n : ℕ) → count_by (is_of n) tickets ≤ 1
 one_ticket clients tickets next k n = omega (arith, k.of_clients n, k.once n)
@@ -187,10 +187,10 @@ no_ticket b client e =
 
 -- ---- there is room for a link more, and for its number
 
-pub one_more_fits : (b : Book) → Kept b → 0 < length b.idle → length b.lent < MOST_LINKS
+pub one_more_fits : (b : Book) → Kept b → 0 < length b.idle → length b.lent < MAX_LINKS
 one_more_fits b k h = omega (arith, k.links.fit, h)
 
-pub started_fits : (b : Book) → Kept b → link_count b < b.limits.max_links → length b.lent < MOST_LINKS
+pub started_fits : (b : Book) → Kept b → link_count b < b.limits.max_links → length b.lent < MAX_LINKS
 started_fits b k h = omega (arith, k.limits.links, h)
 
 pub may_start : (b : Book) → Kept b → b.decisions < last_decision → (b.starts < last_decision) × (b.next_link ≤ last_decision)

@@ -9,7 +9,7 @@ ghost use Rattle.book_model.specs.Book.{Ticket as TicketRow};
 ghost use Rattle.book_model.specs.Events.{change_of};
 ghost use Rattle.book_model.specs.Outcomes as outcome;
 ghost use Rattle.book_model.specs.declared.events.Reply.TheVariants.{Done, Refuse};
-ghost use Rattle.book_model.specs.declared.limits.TheConstants.{MOST_LINKS};
+ghost use Rattle.book_model.specs.declared.limits.TheConstants.{MAX_LINKS};
 ghost use Rattle.book_register.specs.Choices.{Chooses, Gives, eviction_of, number_if_fresh};
 ghost use Rattle.book_register.specs.Striking.{strike_of};
 ghost use Rattle.book_rows.specs.Numbered.{number_of};
@@ -312,7 +312,7 @@ impl BookState {
 
     /// A link goes to the ticket's client. Both have been taken out.
     fn lends(&mut self, ticket: Ticket, link: Link) -> Reply
-        requires room { length self.old.lent < MOST_LINKS }
+        requires room { length self.old.lent < MAX_LINKS }
         requires once { (n : ℕ) → count_by (book.is_client n) self.old.clients ≤ 1 }
         requires more { self.old.reuses < outcome.last_decision }
         ensures book { self.new ≡ record ((outcome.lends self.old ticket link).book) { tickets = self.old.tickets; idle = self.old.idle } }
@@ -328,7 +328,7 @@ impl BookState {
 
     /// A link is to be started for the ticket's client. The ticket has been taken out.
     fn starts(&mut self, ticket: Ticket, evicted: Option<u64>) -> Reply
-        requires room { length self.old.lent < MOST_LINKS }
+        requires room { length self.old.lent < MAX_LINKS }
         requires once { (n : ℕ) → count_by (book.is_client n) self.old.clients ≤ 1 }
         requires more { self.old.starts < outcome.last_decision }
         requires next { self.old.next_link ≤ outcome.last_decision }
@@ -454,7 +454,7 @@ impl BookState {
 
     /// The link, which has been taken out, lies idle from now on.
     fn keeps(&mut self, link: Link) -> Reply
-        requires room { length self.old.idle < MOST_LINKS }
+        requires room { length self.old.idle < MAX_LINKS }
         ensures book { self.new ≡ record self.old { idle = self.old.idle ++ record link { since = self.old.clock } ∷ [] } }
         ensures reply { result ≡ Done }
     {
@@ -500,7 +500,7 @@ impl BookState {
 
     /// The link's lease is found by its client's key word from now on.
     pub(crate) fn keys(&mut self, link: u64, client: KeyView, server: KeyView) -> Reply
-        requires room { length self.old.keyed < MOST_LINKS }
+        requires room { length self.old.keyed < MAX_LINKS }
         ensures book { self.new ≡ (outcome.keys self.old link client server).book }
         ensures reply { result ≡ Done }
     {

@@ -7,7 +7,7 @@ use Rattle.std.proofs.lemmas.List.{get_or-replicate, get_or-set_same, get_or-set
 use Rattle.std.proofs.lemmas.List.Sums.{count_by-le-length, sum_by_push, sum_by-remove}
 use Rattle.message_view.specs.declared.views.KeyView.{KeyView}
 use Rattle.book_model.specs.Book.{Lease, is_of_client}
-use Rattle.book_model.specs.declared.limits.TheConstants.{MOST_LINKS}
+use Rattle.book_model.specs.declared.limits.TheConstants.{MAX_LINKS}
 use Rattle.book_rows.specs.Index.{Tells, is_at, place_of, with_one_less, with_one_more}
 use Rattle.book_rows.specs.declared.index.TheConstants.{PLACES}
 use Rattle.numbered_rows.proofs.Places.{count-cons}
@@ -43,7 +43,7 @@ nobody word counts leases t e = sym (none_found word leases (omega (arith, none,
 
 -- ---- one more
 
-pub fits : (word : KeyView) (counts : List ℕ) (leases : List Lease) → Tells counts leases → length leases < MOST_LINKS → get_or counts (place_of word) 0 < 65535
+pub fits : (word : KeyView) (counts : List ℕ) (leases : List Lease) → Tells counts leases → length leases < MAX_LINKS → get_or counts (place_of word) 0 < 65535
 fits word counts leases t l = omega (arith, l, t.1 (place_of word) (within word), count_by-le-length (is_at (place_of word)) leases)
 
 pub one_more_told : (lease : Lease) (counts : List ℕ) (leases : List Lease) → Tells counts leases → Tells (with_one_more (place_of lease.client) counts) (leases ++ lease ∷ [])

@@ -3,7 +3,7 @@ ghost use Rattle.std.specs.Prelude.{◌≡◌, ◌<◌, ◌≤◌, ◌++◌, ◌
 ghost use Rattle.std.specs.List.{list_any};
 ghost use Rattle.book_model.specs.Book as book;
 ghost use Rattle.book_model.specs.Outcomes.{in_state};
-ghost use Rattle.book_model.specs.declared.limits.TheConstants.{MOST_PRESENT};
+ghost use Rattle.book_model.specs.declared.limits.TheConstants.{MAX_PRESENT};
 
 use book_model::events::ClientState;
 use numbered_rows::numbered::{Numbered, NumberedRows};
@@ -87,7 +87,7 @@ impl Clients {
 
     /// A client comes.
     pub fn push(&mut self, client: Client)
-        requires { length self.old < MOST_PRESENT }
+        requires { length self.old < MAX_PRESENT }
         ensures { self.new ≡ self.old ++ client ∷ [] }
     {
         self.rows.push(client);

@@ -2,10 +2,10 @@
 ghost use Rattle.std.specs.Prelude.{◌≡◌, ◌<◌, ◌≤◌, ◌++◌, ◌∷◌, [], ℕ, IfOk, count_by, find, length, option_copied, position};
 ghost use Rattle.std.specs.List.{list_any};
 ghost use Rattle.book_model.specs.Book as book;
-ghost use Rattle.book_model.specs.declared.limits.TheConstants.{MOST_LINKS};
+ghost use Rattle.book_model.specs.declared.limits.TheConstants.{MAX_LINKS};
 
 use crate::index::Index;
-use book_model::limits::MOST_LINKS;
+use book_model::limits::MAX_LINKS;
 use message_view::KeyView;
 use std::alloc::{AllocError, Global};
 use std::marker::Model;
@@ -58,14 +58,14 @@ impl Drop for Leases {
 impl Model for Leases {
     ghost use Rattle.std.specs.Prelude.{◌≤◌, List, vec_capacity};
     ghost use Rattle.book_model.specs.Book.{Lease as LeaseRow};
-    ghost use Rattle.book_model.specs.declared.limits.TheConstants.{MOST_LINKS};
+    ghost use Rattle.book_model.specs.declared.limits.TheConstants.{MAX_LINKS};
     ghost use Rattle.book_rows.specs.Index.{Tells};
 
     ghost Value = { List LeaseRow };
 
     ghost view = { λ l. l.rows.items };
 
-    ghost invariant = { λ l. (MOST_LINKS ≤ vec_capacity l.rows) × Tells l.index l.rows.items };
+    ghost invariant = { λ l. (MAX_LINKS ≤ vec_capacity l.rows) × Tells l.index l.rows.items };
 }
 
 impl Leases {
@@ -74,7 +74,7 @@ impl Leases {
     pub fn new(alloc: Global) -> Result<Leases, AllocError>
         ensures { IfOk result (λ l. l ≡ []) }
     {
-        let rows = Vec::with_capacity(alloc, MOST_LINKS as usize)?;
+        let rows = Vec::with_capacity(alloc, MAX_LINKS as usize)?;
         let index = Index::new(alloc)?;
         Ok(Leases { rows, index })
     }
@@ -107,7 +107,7 @@ impl Leases {
     /// A lease more.
     #[tactic(auto, using(crate::proofs::Indexing::one_more_told, crate::proofs::Indexing::fits))]
     pub fn push(&mut self, lease: Lease)
-        requires { length self.old < MOST_LINKS }
+        requires { length self.old < MAX_LINKS }
         ensures { self.new ≡ self.old ++ lease ∷ [] }
     {
         self.index.raise(lease.client);
@@ -140,13 +140,13 @@ impl Drop for Numbers {
 
 impl Model for Numbers {
     ghost use Rattle.std.specs.Prelude.{◌≤◌, ℕ, List, vec_capacity};
-    ghost use Rattle.book_model.specs.declared.limits.TheConstants.{MOST_LINKS};
+    ghost use Rattle.book_model.specs.declared.limits.TheConstants.{MAX_LINKS};
 
     ghost Value = { List ℕ };
 
     ghost view = { λ n. n.rows.items };
 
-    ghost invariant = { λ n. MOST_LINKS ≤ vec_capacity n.rows };
+    ghost invariant = { λ n. MAX_LINKS ≤ vec_capacity n.rows };
 }
 
 impl Numbers {
@@ -154,7 +154,7 @@ impl Numbers {
     pub fn new(alloc: Global) -> Result<Numbers, AllocError>
         ensures { IfOk result (λ n. n ≡ []) }
     {
-        let rows = Vec::with_capacity(alloc, MOST_LINKS as usize)?;
+        let rows = Vec::with_capacity(alloc, MAX_LINKS as usize)?;
         Ok(Numbers { rows })
     }
 
@@ -185,7 +185,7 @@ impl Numbers {
     /// The number is there from now on, behind all others.
     pub fn note(&mut self, number: u64)
         requires once { (n : ℕ) → count_by (book.is_number n) self.old ≤ 1 }
-        requires room { length (book.without_number number self.old) < MOST_LINKS }
+        requires room { length (book.without_number number self.old) < MAX_LINKS }
         ensures { self.new ≡ book.with_number number self.old }
     {
         self.remove(number);

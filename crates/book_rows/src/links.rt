@@ -4,7 +4,7 @@ ghost use Rattle.std.specs.List.{list_any};
 ghost use Rattle.start_keys.specs.Keys.{same_key};
 ghost use Rattle.book_model.specs.Book as book;
 ghost use Rattle.book_model.specs.Outcomes.{is_started_as};
-ghost use Rattle.book_model.specs.declared.limits.TheConstants.{MOST_LINKS};
+ghost use Rattle.book_model.specs.declared.limits.TheConstants.{MAX_LINKS};
 ghost use Rattle.numbered_rows.specs.Numbered.{rows_in};
 ghost use Rattle.book_rows.specs.Numbered.{is_of_key, last_with, number_in, number_of};
 ghost use Rattle.numbered_rows.specs.Places.{passes};
@@ -291,7 +291,7 @@ impl Links {
     /// A link more.
     #[tactic(auto, using(crate::proofs::Pooling::listed_more))]
     pub fn push(&mut self, link: Link)
-        requires { length self.old < MOST_LINKS }
+        requires { length self.old < MAX_LINKS }
         ensures { self.new ≡ self.old ++ link ∷ [] }
     {
         list(&mut self.pools, &link.key, link.number);

@@ -3,7 +3,7 @@ ghost use Rattle.std.specs.Prelude.{◌≡◌, ◌<◌, ◌≤◌, ◌++◌, ◌
 ghost use Rattle.std.specs.List.{list_any};
 ghost use Rattle.book_model.specs.Book as book;
 ghost use Rattle.book_model.specs.Book.{Ticket as TicketRow};
-ghost use Rattle.book_model.specs.declared.limits.TheConstants.{MOST_PRESENT};
+ghost use Rattle.book_model.specs.declared.limits.TheConstants.{MAX_PRESENT};
 ghost use Rattle.numbered_rows.specs.Numbered.{rows_in};
 ghost use Rattle.book_rows.specs.Numbered.{client_in};
 ghost use Rattle.numbered_rows.specs.Places.{passes};
@@ -242,7 +242,7 @@ impl Tickets {
     /// A client waits.
     #[tactic(auto, using(crate::proofs::Pooling::listed_more))]
     pub fn push(&mut self, ticket: Ticket)
-        requires { length self.old < MOST_PRESENT }
+        requires { length self.old < MAX_PRESENT }
         ensures { self.new ≡ self.old ++ ticket ∷ [] }
     {
         list(&mut self.pools, &ticket.key, ticket.client);

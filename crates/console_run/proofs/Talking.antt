@@ -27,7 +27,7 @@ use Rattle.console_run.specs.declared.talk.Turn.TheVariants as turn
 use Rattle.console_run.specs.Passing.{Pass}
 use Rattle.ini_config.specs.declared.option_values.ConsoleStyle.{ConsoleStyle}
 use Rattle.console_run.specs.Exchanges.{Asker, after_exchanges}
-use Rattle.time_limits.specs.declared.TheConstants.{MOST_TURNS}
+use Rattle.time_limits.specs.declared.TheConstants.{MAX_TURNS}
 use Rattle.console_run.specs.Talks.{EndsBy, IsClientOver, IsFaulty, IsOver, IsRefused, IsRefusedBy, IsServed, Leaves, Said, Talks, refused_by}
 use Rattle.console_run.specs.Turns.{Goes, HasEnded, HasGone, HasMoved, HasRead, HasResponded, HasTurned, HasWritten, IsRefusedAt, TalkView, greeted, talk_view}
 use Rattle.console_run.proofs.Replying.{refused_here}
@@ -250,7 +250,7 @@ over_further c d e h (inr o) = inr (omega (arith, h, o))
 pub ended_further : (s : Asker) (n : ℕ) (old mid new : TalkView) (p q r : Pass) (last : Option Refusal) → Goes s n old mid p q → HasEnded s mid new q r last → HasEnded s old new p r last
 ended_further s n old mid new p q r None g h = record { turns = n + h.turns; goes = goes_further s n h.turns old mid new p q r g h.goes; why = go h.why }
   where
-    go : (Leaves s.settings.max_packet_size new.drops new.held × (new.unwritten ≡ [])) ⊎ (IsClientOver mid.client new.client ⊎ (MOST_TURNS ≤ h.turns)) → (Leaves s.settings.max_packet_size new.drops new.held × (new.unwritten ≡ [])) ⊎ (IsClientOver old.client new.client ⊎ (MOST_TURNS ≤ n + h.turns))
+    go : (Leaves s.settings.max_packet_size new.drops new.held × (new.unwritten ≡ [])) ⊎ (IsClientOver mid.client new.client ⊎ (MAX_TURNS ≤ h.turns)) → (Leaves s.settings.max_packet_size new.drops new.held × (new.unwritten ≡ [])) ⊎ (IsClientOver old.client new.client ⊎ (MAX_TURNS ≤ n + h.turns))
     go (inl x) = inl x
     go (inr (inl o)) = inr (inl (over_further old.client mid.client new.client g.faults o))
     go (inr (inr m)) = inr (inr (le_trans m (omega arith)))
@@ -280,7 +280,7 @@ talked s n word c v p at q last g e = record {
 why_over : (s : Asker) (word : KeyWord) (c : ClientFacts) (v : TalkView) (p q : Pass) (h : HasGone s (greeted c s.settings.console_style word) v p q) → IsOver s.settings.max_packet_size c v.client (said_in s h.turns word c v p q h.goes)
 why_over s word c v p q h = go h.why
   where
-    go : (Leaves s.settings.max_packet_size v.drops v.held × (v.unwritten ≡ [])) ⊎ (IsClientOver c v.client ⊎ (MOST_TURNS ≤ h.turns)) → IsOver s.settings.max_packet_size c v.client (said_in s h.turns word c v p q h.goes)
+    go : (Leaves s.settings.max_packet_size v.drops v.held × (v.unwritten ≡ [])) ⊎ (IsClientOver c v.client ⊎ (MAX_TURNS ≤ h.turns)) → IsOver s.settings.max_packet_size c v.client (said_in s h.turns word c v p q h.goes)
     go (inl x) = inl (subst (λ (d : Bool). Leaves s.settings.max_packet_size d v.held) h.goes.drops x.0, x.1)
     go (inr (inl o)) = inr (inl o)
     go (inr (inr m)) = inr (inr (omega (arith, m, h.goes.counted, ap (λ (l : List ℕ). length l) h.goes.heard)))

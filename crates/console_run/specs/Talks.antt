@@ -8,7 +8,7 @@ use Rattle.frame_view.specs.Frames.{Faulty, FrameOf, IsFrame, front, spelling}
 use Rattle.message_view.specs.declared.KeyWord.{KeyWord}
 use Rattle.message_view.specs.declared.refusal.Refusal.{Refusal}
 use Rattle.message_view.specs.declared.refusal.Refusal.TheVariants.{MalformedClientMessage, OutOfMemory, ClientMessageTooLong, LastDecision}
-use Rattle.time_limits.specs.declared.TheConstants.{MOST_TURNS}
+use Rattle.time_limits.specs.declared.TheConstants.{MAX_TURNS}
 use Rattle.link_laws.specs.Standing.{ClientFacts}
 use Rattle.console_core.specs.declared.commands.Action.{Action}
 use Rattle.console_core.specs.Messages.{Leave, response_to}
@@ -68,11 +68,11 @@ pub record Said : Type 0 where
 abbrev pub turns_of : Said → ℕ
 turns_of x = length (asked_bytes x.exchanges ++ x.held) + length x.put + length x.exchanges
 
--- else it was turned `MOST_TURNS` times, which is 2^64 - 1: at each turn a byte moved, a message was answered, or the client's end had nothing at that time
+-- else it was turned `MAX_TURNS` times, which is 2^64 - 1: at each turn a byte moved, a message was answered, or the client's end had nothing at that time
 abbrev pub IsOver : ℕ → ClientFacts → ClientFacts → Said → Type 0
 IsOver limit before after x =
     (Leaves limit (drops_behind false x.exchanges) x.held × (x.unwritten ≡ []))
-    ⊎ (IsClientOver before after ⊎ (MOST_TURNS + waits before ≤ turns_of x + waits after))
+    ⊎ (IsClientOver before after ⊎ (MAX_TURNS + waits before ≤ turns_of x + waits after))
 
 -- where it is refused, all that was told is given
 abbrev pub EndsBy : ℕ → ClientFacts → ClientFacts → Said → Option Refusal → Pass → Pass → Type 0

@@ -14,7 +14,7 @@ use Rattle.book_model.specs.Kept.{Kept}
 use Rattle.book_register.specs.Views.{View, view_of}
 use Rattle.pool_figures.specs.Seen.{SeenOf}
 use Rattle.link_desk.specs.Counts.{AtMost, class_counts}
-use Rattle.time_limits.specs.declared.TheConstants.{MOST_TURNS}
+use Rattle.time_limits.specs.declared.TheConstants.{MAX_TURNS}
 use Rattle.link_laws.specs.Standing.{ClientFacts}
 use Rattle.link_desk.specs.declared.answers.Changed.{Changed}
 use Rattle.link_desk.specs.declared.answers.Changed.TheVariants as changed
@@ -182,7 +182,7 @@ pub record Goes (a : Asker) (turns : ℕ) (old new : TalkView) (p q : Pass) : Ty
 pub record HasGone (a : Asker) (old new : TalkView) (p q : Pass) : Type 0 where
   pub turns : ℕ
   pub goes : Goes a turns old new p q
-  pub why : (Leaves a.settings.max_packet_size new.drops new.held × (new.unwritten ≡ [])) ⊎ (IsClientOver old.client new.client ⊎ (MOST_TURNS ≤ turns))
+  pub why : (Leaves a.settings.max_packet_size new.drops new.held × (new.unwritten ≡ [])) ⊎ (IsClientOver old.client new.client ⊎ (MAX_TURNS ≤ turns))
 
 -- it is refused, where all that was told is given
 pub record IsRefusedAt (a : Asker) (old new : TalkView) (p q : Pass) (r : Refusal) : Type 0 where

@@ -14,7 +14,7 @@ use message_view::{KeyWord, Refusal};
 use server_end::gate::Gate;
 use server_end::{ClientEnd, ServerEnd};
 use std::alloc::Global;
-use time_limits::MOST_TURNS;
+use time_limits::MAX_TURNS;
 
 /// Greets the client and answers its messages; by what it is refused, if it is.
 fn drive_console<C: ClientEnd, D: LinkDesk, G: Gate<D::End>>(
@@ -25,7 +25,7 @@ fn drive_console<C: ClientEnd, D: LinkDesk, G: Gate<D::End>>(
 ) -> Option<Refusal>
     ensures { HasEnded (asker console.now.settings.now console.now.who.now.user.now) talk.old talk.new (pass_of (D.told pass.old) (D.holder pass.old)) (pass_of (D.told pass.new) (D.holder pass.new)) result }
 {
-    for _ in 0..MOST_TURNS {
+    for _ in 0..MAX_TURNS {
         match talk.turn(console, pass) {
             Turn::Again => {}
             Turn::Wait => {

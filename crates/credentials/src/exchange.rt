@@ -3,7 +3,7 @@ ghost use Rattle.std.specs.Prelude.{◌≡◌, ◌≤◌, bytes_eq, length};
 ghost use Rattle.message_view.specs.Messages.{message};
 ghost use Rattle.message_view.specs.Parts.{Puts};
 ghost use Rattle.frame_view.specs.declared.client.TheConstants.{PASSWORD_MESSAGE};
-ghost use Rattle.scram.specs.declared.client_messages.TheConstants.{LONGEST_JOINT_NONCE, LONGEST_NONCE};
+ghost use Rattle.scram.specs.declared.client_messages.TheConstants.{MAX_JOINT_NONCE, MAX_NONCE};
 ghost use Rattle.credentials.specs.Exchanges.{exchange_by};
 
 use bytes::BytesMut;
@@ -44,7 +44,7 @@ impl Exchange {
         challenge: &[u8],
         joint: &[u8],
     ) -> Exchange
-        requires { length joint.now ≤ LONGEST_JOINT_NONCE }
+        requires { length joint.now ≤ MAX_JOINT_NONCE }
         ensures { result ≡ exchange_by keys.now nonce.now challenge.now joint.now }
     {
         let first = first_message(nonce);

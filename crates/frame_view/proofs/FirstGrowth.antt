@@ -3,7 +3,7 @@ use Rattle.std.proofs.Common.{◌≡◌, ℕ, ◌+◌, ◌-◌, ◌<◌, ◌≤�
 use Rattle.std.specs.Prelude.{nat_lt, if◌then◌else◌, ◌==◌}
 use Rattle.std.proofs.lemmas.Bool.{le-ltb, ltb-false, ltb-true}
 use Rattle.std.proofs.lemmas.List.{take-append-le, drop-append-le}
-use Rattle.frame_view.specs.declared.first.TheConstants.{PROTOCOL_3_0, CANCEL_REQUEST, SSL_REQUEST, GSSENC_REQUEST, LONGEST_FIRST_PACKET}
+use Rattle.frame_view.specs.declared.first.TheConstants.{PROTOCOL_3_0, CANCEL_REQUEST, SSL_REQUEST, GSSENC_REQUEST, MAX_FIRST_PACKET}
 use Rattle.frame_view.specs.declared.FrameError.{FrameError}
 use Rattle.frame_view.specs.declared.FrameError.TheVariants.{TooShort, TooLong, UnknownCode}
 use Rattle.frame_view.specs.Frames.{number, FirstOf, Start, Cancels, AsksTls, AsksGss, first_spelling, FirstFront, AFirst, LacksFirst, FaultyFirst, after_code, cancel_of, at_code, first_front}
@@ -11,7 +11,7 @@ use Rattle.frame_view.specs.Laws.{GrowsFirst}
 use Rattle.frame_view.proofs.FirstPackets.{after-code, after_code-whole, start-fits, cancel-fits, at_code-fits, first-fits}
 
 first-lacks : (n : ℕ) (new : FirstFront) (here : ℕ) (more : List ℕ) → 0 < n
-    → ((p : FirstOf) (rest : List ℕ) → new ≡ AFirst p rest → n + length rest ≤ length more) → here + n ≤ LONGEST_FIRST_PACKET → GrowsFirst (LacksFirst n) new here more
+    → ((p : FirstOf) (rest : List ℕ) → new ≡ AFirst p rest → n + length rest ≤ length more) → here + n ≤ MAX_FIRST_PACKET → GrowsFirst (LacksFirst n) new here more
 first-lacks n new here more some own room = record {
   whole = λ p r e. absurd cc;
   fits = λ p r e. absurd cc;
@@ -41,7 +41,7 @@ first-whole p rest new here more new-is size = record {
   room = λ n e. absurd cc;
 }
 
-after_code-grows : (size : ℕ) (asks : List ℕ → FirstOf) (text more : List ℕ) (here : ℕ) (short : Bool) → 8 + size ≤ LONGEST_FIRST_PACKET → here ≡ 8 + length text
+after_code-grows : (size : ℕ) (asks : List ℕ → FirstOf) (text more : List ℕ) (here : ℕ) (short : Bool) → 8 + size ≤ MAX_FIRST_PACKET → here ≡ 8 + length text
     → ((p : FirstOf) (rest : List ℕ) → after_code size asks text ≡ AFirst p rest → 8 + length text ≡ length (first_spelling p) + length rest) → nat_lt (length text) size ≡ short
     → GrowsFirst (if short then LacksFirst (size - length text) else AFirst (asks (take size text)) (drop size text)) (after_code size asks (text ++ more)) here more
 after_code-grows size asks text more here true low here-is fits t =
@@ -58,7 +58,7 @@ after_code-grows size asks text more here false low here-is fits t =
     first-whole (asks (take size text)) (drop size text) (after_code size asks (text ++ more)) here more (rw (whole, front-is, back-is) refl)
     (here-is ∙ fits (asks (take size text)) (drop size text) (after_code-whole size asks text le))
 
-code-grows : (len : ℕ) (text more : List ℕ) (here : ℕ) (s c t g l16 l8 : Bool) → 8 ≤ len → len ≤ LONGEST_FIRST_PACKET → here ≡ 8 + length text
+code-grows : (len : ℕ) (text more : List ℕ) (here : ℕ) (s c t g l16 l8 : Bool) → 8 ≤ len → len ≤ MAX_FIRST_PACKET → here ≡ 8 + length text
     → GrowsFirst
     (if s then after_code (len - 8) Start text else (if c then (if l16 then after_code 8 cancel_of text else FaultyFirst TooShort) else (if t then (if l8 then AFirst AsksTls text else FaultyFirst TooShort) else (if g then (if l8 then AFirst AsksGss text else FaultyFirst TooShort) else FaultyFirst UnknownCode))))
     (if s then after_code (len - 8) Start (text ++ more) else (if c then (if l16 then after_code 8 cancel_of (text ++ more) else FaultyFirst TooShort) else (if t then (if l8 then AFirst AsksTls (text ++ more) else FaultyFirst TooShort) else (if g then (if l8 then AFirst AsksGss (text ++ more) else FaultyFirst TooShort) else FaultyFirst UnknownCode))))
@@ -84,13 +84,13 @@ at_code-short len after more here short e =
     (λ p r w. omega (arith, at_code-fits len (after ++ more) p r w, eight p, length-append after more))
     (omega arith)
 
-at_code-grows : (len : ℕ) (after more : List ℕ) (here : ℕ) → 8 ≤ len → len ≤ LONGEST_FIRST_PACKET → here ≡ 4 + length after → GrowsFirst (at_code len after) (at_code len (after ++ more)) here more
+at_code-grows : (len : ℕ) (after more : List ℕ) (here : ℕ) → 8 ≤ len → len ≤ MAX_FIRST_PACKET → here ≡ 4 + length after → GrowsFirst (at_code len after) (at_code len (after ++ more)) here more
 at_code-grows len (e ∷ f ∷ g ∷ h ∷ text) more here low high is =
     let code : ℕ = number e f g h in
     code-grows len text more here (code == PROTOCOL_3_0) (code == CANCEL_REQUEST) (code == SSL_REQUEST) (code == GSSENC_REQUEST) (len == 16) (len == 8) low high (omega (arith, is))
 at_code-grows len short more here low high is = at_code-short len short more here (omega arith) is
 
-length-grows : (len : ℕ) (after more : List ℕ) (here : ℕ) (low high : Bool) → nat_lt len 8 ≡ low → nat_lt LONGEST_FIRST_PACKET len ≡ high → here ≡ 4 + length after
+length-grows : (len : ℕ) (after more : List ℕ) (here : ℕ) (low high : Bool) → nat_lt len 8 ≡ low → nat_lt MAX_FIRST_PACKET len ≡ high → here ≡ 4 + length after
     → GrowsFirst
     (if low then FaultyFirst TooShort else (if high then FaultyFirst TooLong else at_code len after))
     (if low then FaultyFirst TooShort else (if high then FaultyFirst TooLong else at_code len (after ++ more)))
@@ -108,5 +108,5 @@ first-short bytes more short =
 pub first-grows : (bytes more : List ℕ) → GrowsFirst (first_front bytes) (first_front (bytes ++ more)) (length bytes) more
 first-grows (a ∷ b ∷ c ∷ d ∷ after) more =
     let len : ℕ = number a b c d in
-    length-grows len after more _ (nat_lt len 8) (nat_lt LONGEST_FIRST_PACKET len) refl refl (omega arith)
+    length-grows len after more _ (nat_lt len 8) (nat_lt MAX_FIRST_PACKET len) refl refl (omega arith)
 first-grows short more = first-short short more (omega arith)

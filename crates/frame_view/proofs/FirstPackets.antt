@@ -5,15 +5,15 @@ use Rattle.std.specs.Int.{w32, to_be_bytes}
 use Rattle.std.proofs.lemmas.Bool.{le-ltb, ltb-false, eqb-true}
 use Rattle.std.proofs.lemmas.List.{take-append-drop}
 use Rattle.std.proofs.Math.Seq.{take-append_seam, drop-append_seam}
-use Rattle.frame_view.specs.declared.first.TheConstants.{PROTOCOL_3_0, CANCEL_REQUEST, SSL_REQUEST, GSSENC_REQUEST, LONGEST_FIRST_PACKET}
+use Rattle.frame_view.specs.declared.first.TheConstants.{PROTOCOL_3_0, CANCEL_REQUEST, SSL_REQUEST, GSSENC_REQUEST, MAX_FIRST_PACKET}
 use Rattle.frame_view.specs.declared.FrameError.TheVariants.{TooShort, TooLong, UnknownCode}
 use Rattle.frame_view.specs.Frames.{AreBytes, number, FirstOf, Start, Cancels, AsksTls, AsksGss, first_spelling, IsFirst, AFirst, LacksFirst, FaultyFirst, after_code, cancel_of, at_code, of_length, first_front}
 use Rattle.frame_view.proofs.FourBytes.{number-bytes, bytes-number}
 
-of_length-lawful : (len : ℕ) (rest : List ℕ) → 8 ≤ len → len ≤ LONGEST_FIRST_PACKET → of_length len rest ≡ at_code len rest
+of_length-lawful : (len : ℕ) (rest : List ℕ) → 8 ≤ len → len ≤ MAX_FIRST_PACKET → of_length len rest ≡ at_code len rest
 of_length-lawful len rest low high =
     let a : nat_lt len 8 ≡ false = le-ltb _ _ low in
-    let b : nat_lt LONGEST_FIRST_PACKET len ≡ false = le-ltb _ _ high in
+    let b : nat_lt MAX_FIRST_PACKET len ≡ false = le-ltb _ _ high in
     rw (a, b) refl
 
 pub after_code-whole : (size : ℕ) (asks : List ℕ → FirstOf) (rest : List ℕ) → size ≤ length rest → after_code size asks rest ≡ AFirst (asks (take size rest)) (drop size rest)
@@ -49,7 +49,7 @@ after-code size asks rest p more false t e = (cc, cc, ltb-false _ _ t)
 abbrev Spelled : ℕ → ℕ → List ℕ → FirstOf → List ℕ → Type 0
 Spelled len code text p rest = (to_be_bytes w32 len ++ to_be_bytes w32 code ++ text ≡ first_spelling p ++ rest) × IsFirst p
 
-start-spelled : (len : ℕ) (text : List ℕ) (p : FirstOf) (rest : List ℕ) → 8 ≤ len → len ≤ LONGEST_FIRST_PACKET → after_code (len - 8) Start text ≡ AFirst p rest → Spelled len PROTOCOL_3_0 text p rest
+start-spelled : (len : ℕ) (text : List ℕ) (p : FirstOf) (rest : List ℕ) → 8 ≤ len → len ≤ MAX_FIRST_PACKET → after_code (len - 8) Start text ≡ AFirst p rest → Spelled len PROTOCOL_3_0 text p rest
 start-spelled len text p rest low high e =
     let g = after-code (len - 8) Start text p rest (nat_lt (length text) (len - 8)) refl e in
     let body : List ℕ = take (len - 8) text in
@@ -58,7 +58,7 @@ start-spelled len text p rest low high e =
     let code : List ℕ = to_be_bytes w32 PROTOCOL_3_0 in
     let parts = ap (λ (t : List ℕ). to_be_bytes w32 len ++ code ++ t) (sym (take-append-drop (len - 8) text)) in
     let sized = ap (λ (n : ℕ). to_be_bytes w32 n ++ code ++ body ++ left) (sym size) in
-    let bound : 8 + length body ≤ LONGEST_FIRST_PACKET = omega (arith, size, high) in
+    let bound : 8 + length body ≤ MAX_FIRST_PACKET = omega (arith, size, high) in
     let is : Spelled len PROTOCOL_3_0 text (Start body) left = (parts ∙ sized, bound) in
     rw (← g.0, ← g.1) is
 
@@ -94,7 +94,7 @@ gss-spelled text p rest e =
     let all : Spelled 8 GSSENC_REQUEST text AsksGss text = (refl, tt) in
     rw (← is, ← left) all
 
-code-spelled : (len code : ℕ) (text : List ℕ) (p : FirstOf) (rest : List ℕ) (s c t g l16 l8 : Bool) → 8 ≤ len → len ≤ LONGEST_FIRST_PACKET → AreBytes text
+code-spelled : (len code : ℕ) (text : List ℕ) (p : FirstOf) (rest : List ℕ) (s c t g l16 l8 : Bool) → 8 ≤ len → len ≤ MAX_FIRST_PACKET → AreBytes text
     → (code == PROTOCOL_3_0) ≡ s → (code == CANCEL_REQUEST) ≡ c → (code == SSL_REQUEST) ≡ t → (code == GSSENC_REQUEST) ≡ g → (len == 16) ≡ l16 → (len == 8) ≡ l8
     → (if s then after_code (len - 8) Start text else
     (if c then (if l16 then after_code 8 cancel_of text else FaultyFirst TooShort) else
@@ -112,15 +112,15 @@ code-spelled len code text p rest false false false true l16 false low high fit 
 code-spelled len code text p rest false false false false l16 l8 low high fit se ce te ge e16 e8 e = absurd cc
 
 -- what of_length answers as a packet
-at-length : (len : ℕ) (rest : List ℕ) (p : FirstOf) (more : List ℕ) (low high : Bool) → nat_lt len 8 ≡ low → nat_lt LONGEST_FIRST_PACKET len ≡ high
+at-length : (len : ℕ) (rest : List ℕ) (p : FirstOf) (more : List ℕ) (low high : Bool) → nat_lt len 8 ≡ low → nat_lt MAX_FIRST_PACKET len ≡ high
     → (if low then FaultyFirst TooShort else (if high then FaultyFirst TooLong else at_code len rest)) ≡ AFirst p more
-    → (8 ≤ len) × (len ≤ LONGEST_FIRST_PACKET) × (at_code len rest ≡ AFirst p more)
+    → (8 ≤ len) × (len ≤ MAX_FIRST_PACKET) × (at_code len rest ≡ AFirst p more)
 at-length len rest p more true high l h e = absurd cc
 at-length len rest p more false true l h e = absurd cc
 at-length len rest p more false false l h e = (ltb-false _ _ l, ltb-false _ _ h, e)
 
 -- a length and what follows it
-length-spelled : (len : ℕ) (after : List ℕ) (p : FirstOf) (rest : List ℕ) → 8 ≤ len → len ≤ LONGEST_FIRST_PACKET → AreBytes after → at_code len after ≡ AFirst p rest → (to_be_bytes w32 len ++ after ≡ first_spelling p ++ rest) × IsFirst p
+length-spelled : (len : ℕ) (after : List ℕ) (p : FirstOf) (rest : List ℕ) → 8 ≤ len → len ≤ MAX_FIRST_PACKET → AreBytes after → at_code len after ≡ AFirst p rest → (to_be_bytes w32 len ++ after ≡ first_spelling p ++ rest) × IsFirst p
 length-spelled len (e ∷ f ∷ g ∷ h ∷ text) p rest low high fit is =
     let code : ℕ = number e f g h in
     let s = code-spelled len code text p rest (code == PROTOCOL_3_0) (code == CANCEL_REQUEST) (code == SSL_REQUEST) (code == GSSENC_REQUEST) (len == 16) (len == 8) low high (λ i. fit (suc (suc (suc (suc i))))) refl refl refl refl refl refl is in
@@ -131,7 +131,7 @@ length-spelled len short p rest low high fit is = absurd cc
 pub first-spelled : (bytes : List ℕ) (p : FirstOf) (rest : List ℕ) → AreBytes bytes → first_front bytes ≡ AFirst p rest → (bytes ≡ first_spelling p ++ rest) × IsFirst p
 first-spelled (a ∷ b ∷ c ∷ d ∷ after) p rest fit e =
     let len : ℕ = number a b c d in
-    let h = at-length len after p rest (nat_lt len 8) (nat_lt LONGEST_FIRST_PACKET len) refl refl e in
+    let h = at-length len after p rest (nat_lt len 8) (nat_lt MAX_FIRST_PACKET len) refl refl e in
     let s = length-spelled len after p rest h.0 h.1 (λ i. fit (suc (suc (suc (suc i))))) h.2 in
     let four : to_be_bytes w32 len ≡ a ∷ b ∷ c ∷ d ∷ [] = bytes-number len a b c d refl (fit 0) (fit 1) (fit 2) (fit 3) in
     (ap (λ (t : List ℕ). t ++ after) (sym four) ∙ s.0, s.1)
@@ -180,6 +180,6 @@ at_code-fits len short p rest is = absurd cc
 pub first-fits : (bytes : List ℕ) (p : FirstOf) (rest : List ℕ) → first_front bytes ≡ AFirst p rest → length bytes ≡ length (first_spelling p) + length rest
 first-fits (a ∷ b ∷ c ∷ d ∷ after) p rest e =
     let len : ℕ = number a b c d in
-    let h = at-length len after p rest (nat_lt len 8) (nat_lt LONGEST_FIRST_PACKET len) refl refl e in
+    let h = at-length len after p rest (nat_lt len 8) (nat_lt MAX_FIRST_PACKET len) refl refl e in
     omega (arith, at_code-fits len after p rest h.2)
 first-fits short p rest e = absurd cc

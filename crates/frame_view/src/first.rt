@@ -17,7 +17,7 @@ pub const SSL_REQUEST: u32 = 80_877_103;
 pub const GSSENC_REQUEST: u32 = 80_877_104;
 
 /// The greatest length of a first packet.
-pub const LONGEST_FIRST_PACKET: u32 = 10_000;
+pub const MAX_FIRST_PACKET: u32 = 10_000;
 /// The length of a packet that is a length and a code alone.
 const LEAST_FIRST_PACKET: u32 = 8;
 /// The length of a CancelRequest.
@@ -82,7 +82,7 @@ fn length_at(length: u32, rest: &[u8]) -> FirstStep<'_>
 /// Reads a client's first packet from the front of `buf`.
 ///
 /// A StartupMessage's slice is that of `buf`, from its ninth byte on. A length below 8
-/// ([`FrameError::TooShort`]) or above [`LONGEST_FIRST_PACKET`] ([`FrameError::TooLong`]) is told once
+/// ([`FrameError::TooShort`]) or above [`MAX_FIRST_PACKET`] ([`FrameError::TooLong`]) is told once
 /// four bytes are there. Once eight are there, so is [`FrameError::UnknownCode`], and
 /// [`FrameError::TooShort`] for a CancelRequest whose length isn't 16 and an SSLRequest or
 /// GSSENCRequest whose length isn't 8. Takes no memory.
@@ -97,7 +97,7 @@ pub fn first_packet(buf: &[u8]) -> FirstStep<'_>
     if length < LEAST_FIRST_PACKET {
         return FirstStep::Bad(FrameError::TooShort);
     }
-    if length > LONGEST_FIRST_PACKET {
+    if length > MAX_FIRST_PACKET {
         return FirstStep::Bad(FrameError::TooLong);
     }
     length_at(length, &buf[NUMBER..])

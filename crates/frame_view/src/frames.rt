@@ -8,7 +8,7 @@ use crate::numbers::number_at;
 use crate::{Frame, FrameError, Head, HeadStep, Side, Step, client};
 
 /// The greatest length of a frame: that of a signed number of four bytes.
-pub const LONGEST_FRAME: u32 = 2_147_483_647;
+pub const MAX_FRAME: u32 = 2_147_483_647;
 
 /// The bytes of a frame's head: its type and its length.
 pub const HEAD: usize = 5;

@@ -11,14 +11,14 @@ use bstr::ByteSlice;
 use server_host::MAX_HOST;
 use text_lines::trimmed;
 
-const LONGEST_GROUP: usize = 4;
+const MAX_GROUP: usize = 4;
 
 const GROUPS: usize = 8;
 
-const LONGEST_LABEL: usize = 63;
+const MAX_LABEL: usize = 63;
 
 /// A Unix socket's path has at most 107 bytes, of which `/.s.PGSQL.` and a port take 15.
-const LONGEST_FOLDER: usize = 92;
+const MAX_FOLDER: usize = 92;
 
 /// Whether it has 1 to so many bytes.
 fn has_length(most: usize, text: &[u8]) -> bool
@@ -44,7 +44,7 @@ fn are_hex_digits(text: &[u8]) -> bool
 fn is_group(text: &[u8]) -> bool
     ensures { result ≡ spec.is_group text.now }
 {
-    has_length(LONGEST_GROUP, text) && are_hex_digits(text)
+    has_length(MAX_GROUP, text) && are_hex_digits(text)
 }
 
 /// Whether these are groups with colons between.
@@ -121,7 +121,7 @@ fn are_name_bytes(text: &[u8]) -> bool
 fn is_label(text: &[u8]) -> bool
     ensures { result ≡ spec.is_label text.now }
 {
-    has_length(LONGEST_LABEL, text) && !text.starts_with(b"-") && are_name_bytes(text)
+    has_length(MAX_LABEL, text) && !text.starts_with(b"-") && are_name_bytes(text)
 }
 
 /// Whether this is a name: labels with dots between.
@@ -160,7 +160,7 @@ fn are_printing(text: &[u8]) -> bool
 fn is_folder(text: &[u8]) -> bool
     ensures { result ≡ spec.is_folder text.now }
 {
-    text.starts_with(b"/") && has_length(LONGEST_FOLDER, text) && are_printing(text)
+    text.starts_with(b"/") && has_length(MAX_FOLDER, text) && are_printing(text)
 }
 
 fn has_colon(text: &[u8]) -> bool

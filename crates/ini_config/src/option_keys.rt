@@ -129,9 +129,9 @@ static SERVED: [(&str, Key); 35] = [
     ("metrics_port", Key::MetricsPort),
 ];
 
-const MOST_LINKS: u32 = 10_000;
+const MAX_LINKS: u32 = 10_000;
 
-const MOST_SECONDS: u32 = 2_147_483_647;
+const MAX_SECONDS: u32 = 2_147_483_647;
 
 /// The first byte of a process number, whose top bit stays clear.
 const MAX_PEER_ID: u32 = 127;
@@ -220,12 +220,12 @@ pub(crate) fn read_setting(key: Key, value: &[u8]) -> Option<Setting<'_>>
         Key::AuthType => Some(Setting::AuthType(auth_type(value)?)),
         Key::AdminUsers => Some(Setting::AdminUsers(value)),
         Key::PoolMode | Key::ServerResetQuery | Key::Unused => Some(Setting::Nothing),
-        Key::MaxClientConn => Some(Setting::MaxClientConn(number(value, 1, MOST_LINKS)?)),
-        Key::DefaultPoolSize => Some(Setting::DefaultPoolSize(number(value, 1, MOST_LINKS)?)),
-        Key::MaxLinks => Some(Setting::MaxLinks(number(value, 1, MOST_LINKS)?)),
-        Key::QueryWaitTimeout => Some(Setting::QueryWaitTimeout(number(value, 0, MOST_SECONDS)?)),
-        Key::ServerLifetime => Some(Setting::ServerLifetime(number(value, 0, MOST_SECONDS)?)),
-        Key::ServerIdleTimeout => Some(Setting::ServerIdleTimeout(number(value, 0, MOST_SECONDS)?)),
+        Key::MaxClientConn => Some(Setting::MaxClientConn(number(value, 1, MAX_LINKS)?)),
+        Key::DefaultPoolSize => Some(Setting::DefaultPoolSize(number(value, 1, MAX_LINKS)?)),
+        Key::MaxLinks => Some(Setting::MaxLinks(number(value, 1, MAX_LINKS)?)),
+        Key::QueryWaitTimeout => Some(Setting::QueryWaitTimeout(number(value, 0, MAX_SECONDS)?)),
+        Key::ServerLifetime => Some(Setting::ServerLifetime(number(value, 0, MAX_SECONDS)?)),
+        Key::ServerIdleTimeout => Some(Setting::ServerIdleTimeout(number(value, 0, MAX_SECONDS)?)),
         Key::MaxPacketSize => Some(Setting::MaxPacketSize(number(
             value,
             SMALLEST_PACKET,
@@ -241,18 +241,18 @@ pub(crate) fn read_setting(key: Key, value: &[u8]) -> Option<Setting<'_>>
         Key::UnixSocketGroup => Some(Setting::UnixSocketGroup(value)),
         Key::PeerId => Some(Setting::PeerId(number(value, 0, MAX_PEER_ID)?)),
         Key::TcpKeepalive => Some(Setting::TcpKeepalive(!is_zero(value))),
-        Key::TcpKeepidle => Some(Setting::TcpKeepidle(number(value, 0, MOST_SECONDS)?)),
-        Key::TcpKeepintvl => Some(Setting::TcpKeepintvl(number(value, 0, MOST_SECONDS)?)),
-        Key::TcpKeepcnt => Some(Setting::TcpKeepcnt(number(value, 0, MOST_SECONDS)?)),
-        Key::TcpUserTimeout => Some(Setting::TcpUserTimeout(number(value, 0, MOST_SECONDS)?)),
+        Key::TcpKeepidle => Some(Setting::TcpKeepidle(number(value, 0, MAX_SECONDS)?)),
+        Key::TcpKeepintvl => Some(Setting::TcpKeepintvl(number(value, 0, MAX_SECONDS)?)),
+        Key::TcpKeepcnt => Some(Setting::TcpKeepcnt(number(value, 0, MAX_SECONDS)?)),
+        Key::TcpUserTimeout => Some(Setting::TcpUserTimeout(number(value, 0, MAX_SECONDS)?)),
         Key::ServerConnectTimeout => {
-            Some(Setting::ServerConnectTimeout(number(value, 0, MOST_SECONDS)?))
+            Some(Setting::ServerConnectTimeout(number(value, 0, MAX_SECONDS)?))
         }
         Key::ClientLoginTimeout => {
-            Some(Setting::ClientLoginTimeout(number(value, 0, MOST_SECONDS)?))
+            Some(Setting::ClientLoginTimeout(number(value, 0, MAX_SECONDS)?))
         }
         Key::StatsUsers => Some(Setting::StatsUsers(value)),
-        Key::StatsPeriod => Some(Setting::StatsPeriod(number(value, 1, MOST_SECONDS)?)),
+        Key::StatsPeriod => Some(Setting::StatsPeriod(number(value, 1, MAX_SECONDS)?)),
         Key::LogStats => Some(Setting::LogStats(!is_zero(value))),
         Key::ConsoleStyle => Some(Setting::ConsoleStyle(console_style(value)?)),
         Key::MetricsAddr => Some(Setting::MetricsAddr(listen_addresses(value)?)),

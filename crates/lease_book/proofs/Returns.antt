@@ -9,7 +9,7 @@ use Rattle.start_keys.specs.Keys.{same_key}
 use Rattle.start_keys.specs.SameKeys.{same_keys-one}
 use Rattle.link_run.specs.Links.{LinkView}
 use Rattle.book_model.specs.Book.{Book, Link, is_link}
-use Rattle.book_model.specs.declared.limits.TheConstants.{MOST_LINKS}
+use Rattle.book_model.specs.declared.limits.TheConstants.{MAX_LINKS}
 use Rattle.book_model.specs.Outcomes.{Answer, apply, apply_return, decided, counted, gives_back, is_crowded, is_old, is_started_as, is_strange, kind_of, last_decision, loses}
 use Rattle.book_model.specs.Outcomes.Event.{GiveBack}
 use Rattle.book_model.specs.declared.counts.Kind.{Kind}
@@ -123,7 +123,7 @@ length_seen : {X : Type 0} (f : X → Started) (xs : List X) → length (map f x
 length_seen f [] = refl
 length_seen f (x ∷ xs) = ap suc (length_seen f xs)
 
-pub has_place : (idle : List LinkView) (b lists : Book) (l : LinkView) (told : Reply) → HoldsLinks idle b → lists ≡ (apply_return b l.number l.key l.born).book → told ≡ (apply_return b l.number l.key l.born).reply → is_done told ≡ true → (Kept b → Kept lists) → length idle < MOST_LINKS
+pub has_place : (idle : List LinkView) (b lists : Book) (l : LinkView) (told : Reply) → HoldsLinks idle b → lists ≡ (apply_return b l.number l.key l.born).book → told ≡ (apply_return b l.number l.key l.born).reply → is_done told ≡ true → (Kept b → Kept lists) → length idle < MAX_LINKS
 has_place idle b lists l told h new is d room =
     let next = holds_one_more idle (idle ++ l ∷ []) b lists l told h new is d room refl in
     let size : length (idle ++ l ∷ []) ≡ length lists.idle = sym (length_seen started (idle ++ l ∷ [])) ∙ ap length next.same ∙ length_seen listed lists.idle in

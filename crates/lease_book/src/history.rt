@@ -16,7 +16,7 @@ use std::alloc::{AllocError, Global};
 use std::marker::Model;
 
 /// So many decisions are kept.
-pub const MOST_KEPT: usize = 256;
+pub const MAX_KEPT: usize = 256;
 
 /// An event that changed the book, with its reply, and the pass through which it came.
 #[derive(Drop)]
@@ -64,7 +64,7 @@ impl History {
     pub(crate) fn new(alloc: Global, lists: &BookState) -> Result<History, AllocError>
         ensures { IfOk result (λ h. h ≡ record { base = lists.now; kept = [] }) }
     {
-        let kept = HeapCircularBuffer::with_capacity(alloc, MOST_KEPT)?;
+        let kept = HeapCircularBuffer::with_capacity(alloc, MAX_KEPT)?;
         Ok(History {
             base: Base::of(lists),
             kept,

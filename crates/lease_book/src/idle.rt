@@ -2,10 +2,10 @@
 ghost use Rattle.std.specs.Prelude.{◌≡◌, ℕ, ◌≤◌, ◌<◌, ◌++◌, ◌∷◌, [], IfOk, count_by, length, position};
 ghost use Rattle.std.specs.List.{list_any};
 ghost use Rattle.start_keys.specs.Keys.{same_key};
-ghost use Rattle.book_model.specs.declared.limits.TheConstants.{MOST_LINKS};
+ghost use Rattle.book_model.specs.declared.limits.TheConstants.{MAX_LINKS};
 ghost use Rattle.lease_book.specs.Links.{found, is_numbered, left};
 
-use book_model::limits::MOST_LINKS;
+use book_model::limits::MAX_LINKS;
 use link_run::links::CleanLink;
 use server_end::ServerEnd;
 use start_keys::StartKey;
@@ -25,14 +25,14 @@ impl<E: ServerEnd> Drop for IdleLinks<E> {
 
 impl<E: ServerEnd> Model for IdleLinks<E> {
     ghost use Rattle.std.specs.Prelude.{◌≤◌, List, vec_capacity};
-    ghost use Rattle.book_model.specs.declared.limits.TheConstants.{MOST_LINKS};
+    ghost use Rattle.book_model.specs.declared.limits.TheConstants.{MAX_LINKS};
     ghost use Rattle.link_run.specs.Links.{LinkView};
 
     ghost Value = { List LinkView };
 
     ghost view = { λ l. l.links.items };
 
-    ghost invariant = { λ l. MOST_LINKS ≤ vec_capacity l.links };
+    ghost invariant = { λ l. MAX_LINKS ≤ vec_capacity l.links };
 }
 
 /// Where the link of this number stands.
@@ -48,13 +48,13 @@ impl<E: ServerEnd> IdleLinks<E> {
         ensures { IfOk result (λ l. l ≡ []) }
     {
         let mut links = Vec::new(alloc);
-        links.reserve(MOST_LINKS as usize)?;
+        links.reserve(MAX_LINKS as usize)?;
         Ok(IdleLinks { links })
     }
 
     /// Keeps a link behind the others.
     pub fn push(&mut self, link: CleanLink<E>)
-        requires { length self.old < MOST_LINKS }
+        requires { length self.old < MAX_LINKS }
         ensures { self.new ≡ self.old ++ link ∷ [] }
     {
         self.links.push_reserved(link);

@@ -3,7 +3,7 @@ use Rattle.std.proofs.Common.{◌≡◌, ℕ, zero, suc, Bool, true, false, List
 use Rattle.std.specs.List.{flat_map}
 use Rattle.std.proofs.lemmas.Grind.{flat_map-append}
 use Rattle.frame_view.specs.declared.Side.TheVariants.{Client}
-use Rattle.frame_view.specs.declared.frames.TheConstants.{LONGEST_FRAME}
+use Rattle.frame_view.specs.declared.frames.TheConstants.{MAX_FRAME}
 use Rattle.frame_view.specs.Frames.{FrameOf, Front, FirstFront, Start, Cut, spelling}
 use Rattle.frame_view.specs.Laws.{SpelledIsFront, SpelledIsFirst, FirstSpelledIsRead}
 use Rattle.session_run_laws.specs.declared.cause.Cause.{Cause}
@@ -74,10 +74,10 @@ one_packet laws v (Before auth) (Starts start) marks rest h =
 one_packet laws v (Before auth) (Sends m f) marks rest h = absurd h
 one_packet laws v (Asked start answer auth) (Starts _) marks rest h = absurd h
 one_packet laws v (Asked start answer auth) (Sends m f) marks rest h =
-    ap (λ (x : Front). at_front (hears v start answer auth) (replies_by v (length auth.rounds)) (m ∷ marks) x) (laws.is_front Client LONGEST_FRAME f rest (omega arith) h.0.whole)
+    ap (λ (x : Front). at_front (hears v start answer auth) (replies_by v (length auth.rounds)) (m ∷ marks) x) (laws.is_front Client MAX_FRAME f rest (omega arith) h.0.whole)
     ∙ ap (λ (b : List ℕ). flat_map spelling (hears v start answer auth f).replies ++ b) (heard_by v start answer auth f marks rest)
 one_packet laws v (Open s) (Starts _) marks rest h = absurd h
-one_packet laws v (Open s) (Sends m f) marks rest h = one_frame v s m f marks rest (ap (λ (c : Cut). c.frames) (laws.is_first Client LONGEST_FRAME f rest (omega arith) h.0.whole))
+one_packet laws v (Open s) (Sends m f) marks rest h = one_frame v s m f marks rest (ap (λ (c : Cut). c.frames) (laws.is_first Client MAX_FRAME f rest (omega arith) h.0.whole))
 one_packet laws v Closed p marks rest h = absurd h
 
 all_packets : Laws → (v : Server) (s : Stage) (ps : List Packet) (marks : List Bool) (rest : List ℕ) → MayTakeAll v s ps

@@ -4,7 +4,7 @@ use Rattle.std.specs.List.{flat_map, AllByRecursion}
 use Rattle.std.proofs.lemmas.Bool.{cases_Bool}
 use Rattle.std.proofs.lemmas.Grind.{flat_map-append}
 use Rattle.frame_view.specs.declared.Side.TheVariants.{Client, Server}
-use Rattle.frame_view.specs.declared.frames.TheConstants.{LONGEST_FRAME}
+use Rattle.frame_view.specs.declared.frames.TheConstants.{MAX_FRAME}
 use Rattle.frame_view.specs.Frames.{FrameOf, IsFrame, Stops, Cut, front, spelling}
 use Rattle.frame_view.proofs.Splitting.{splits-one_way}
 use Rattle.session_run_laws.specs.declared.cause.Cause.{Cause}
@@ -25,16 +25,16 @@ use Rattle.link_laws.proofs.Splits.{SplitsOff, split_off, split_whole}
 use Rattle.link_laws.specs.Futures.{replies_in}
 use Rattle.link_laws.specs.Leases.{Lease, IsUnderWay, own, IsExact, IsFront}
 
-all_client : (fs : List FrameOf) → AllByRecursion IsSent fs → AllByRecursion (IsFrame Client LONGEST_FRAME) fs
+all_client : (fs : List FrameOf) → AllByRecursion IsSent fs → AllByRecursion (IsFrame Client MAX_FRAME) fs
 all_client [] h = tt
 all_client (f ∷ fs) h = (h.0.whole, all_client fs h.1)
 
 -- the frames of a client's bytes that are these, with the beginning of one more
-frames_of : (fs : List FrameOf) (tail : List ℕ) → AllByRecursion IsSent fs → Stops (front Client LONGEST_FRAME tail) → client_frames (flat_map spelling fs ++ tail) ≡ fs
-frames_of fs tail h stops = ap (λ (c : Cut). c.frames) (splits-one_way Client LONGEST_FRAME (flat_map spelling fs ++ tail) fs tail (omega arith) (record { whole = refl; each = all_client fs h; stops = stops }))
+frames_of : (fs : List FrameOf) (tail : List ℕ) → AllByRecursion IsSent fs → Stops (front Client MAX_FRAME tail) → client_frames (flat_map spelling fs ++ tail) ≡ fs
+frames_of fs tail h stops = ap (λ (c : Cut). c.frames) (splits-one_way Client MAX_FRAME (flat_map spelling fs ++ tail) fs tail (omega arith) (record { whole = refl; each = all_client fs h; stops = stops }))
 
 -- the service of frames that a fresh session is sent
-service_of : (cat : CatalogueOf) (key : StartKeyOf) (s : State) (pid secret : ℕ) (marks : List Bool) (fs : List FrameOf) (tail : List ℕ) → fresh cat key ≡ Ok s → AllByRecursion IsSent fs → Stops (front Client LONGEST_FRAME tail)
+service_of : (cat : CatalogueOf) (key : StartKeyOf) (s : State) (pid secret : ℕ) (marks : List Bool) (fs : List FrameOf) (tail : List ℕ) → fresh cat key ≡ Ok s → AllByRecursion IsSent fs → Stops (front Client MAX_FRAME tail)
     → service cat key pid secret marks (flat_map spelling fs ++ tail) ≡ flat_map spelling (welcome s pid secret) ++ flat_map spelling (run_frames cat s marks fs).replies
 unfolding service
 service_of cat key s pid secret marks fs tail e h stops =
@@ -55,7 +55,7 @@ all-back (x ∷ xs) ys h = all-back xs ys h.1
 took : (l : Lease) (s : State) (left : List ℕ) (taken : List FrameOf) → IsUnderWay l → AllByRecursion IsSent taken → l.sent ≡ flat_map spelling taken ++ left → Took l s left taken
 took l s left taken u h e =
     let b : flat_map spelling l.forwarded ++ l.tail ≡ flat_map spelling taken ++ (left ++ l.for_link) = sym u.on_way ∙ ap (λ (x : List ℕ). x ++ l.for_link) e ∙ append_assoc (flat_map spelling taken) left l.for_link in
-    let o : SplitsOff l.forwarded taken l.tail (left ++ l.for_link) = split_off Client LONGEST_FRAME l.forwarded taken l.tail (left ++ l.for_link) (omega arith) (all_client l.forwarded u.sent) (all_client taken h) u.in_part b in
+    let o : SplitsOff l.forwarded taken l.tail (left ++ l.for_link) = split_off Client MAX_FRAME l.forwarded taken l.tail (left ++ l.for_link) (omega arith) (all_client l.forwarded u.sent) (all_client taken h) u.in_part b in
     record { more = o.more; all = o.all; bytes = o.bytes; sent = all-back taken o.more (subst (AllByRecursion IsSent) o.all u.sent) }
 
 -- the replies to all are those to what was taken, and then those to the rest, of which none is struck
@@ -150,7 +150,7 @@ leases-front l u f = ⊎_elim (λ v. front_of_living l u f v) (λ d. front_of_de
 -- ---- a settled lease
 
 pub settled-rest : (l : Lease) (arrived : List FrameOf) → IsUnderWay l → l.began.follows ≡ true → l.link.lives ≡ true → l.for_link ≡ [] → l.tail ≡ []
-    → AllByRecursion (IsFrame Server LONGEST_FRAME) arrived → l.received ≡ flat_map spelling arrived → IsAnswered l.forwarded arrived → IsResting l.link l.key
+    → AllByRecursion (IsFrame Server MAX_FRAME) arrived → l.received ≡ flat_map spelling arrived → IsAnswered l.forwarded arrived → IsResting l.link l.key
 settled-rest l arrived u f v none whole each got a =
     let x : Served l.began l.sent (marks_since l.began l.link) l.link l.received = u.moves.served f v in
     let ms : List Bool = packets_marks x.taken in
@@ -161,7 +161,7 @@ settled-rest l arrived u f v none whole each got a =
     let i : InSession l.began.server s x.taken = in_stage l s d x.taken x.lawful in
     let t : Took l s l.link.inbox i.frames = took l s l.link.inbox i.frames u i.sent (went l s d x.taken i l.link.inbox x.inbox) in
     let r : flat_map spelling (run_frames cat s ms i.frames).replies ≡ flat_map spelling arrived ++ l.link.outbox = told l s d x.taken i l.received l.link.outbox x.outbox ∙ ap (λ (q : List ℕ). q ++ l.link.outbox) got in
-    let b : SplitsOff (run_frames cat s ms i.frames).replies arrived [] l.link.outbox = split_whole Server LONGEST_FRAME (run_frames cat s ms i.frames).replies arrived l.link.outbox (omega arith) (run_replies_are_frames cat l.key s ms i.frames reached i.sent) each r in
+    let b : SplitsOff (run_frames cat s ms i.frames).replies arrived [] l.link.outbox = split_whole Server MAX_FRAME (run_frames cat s ms i.frames).replies arrived l.link.outbox (omega arith) (run_replies_are_frames cat l.key s ms i.frames reached i.sent) each r in
     let q : IsQuiet cat s ms l.forwarded arrived i.frames t.more b.more = settled_is_quiet cat s ms l.forwarded arrived i.frames t.more b.more a t.all b.all in
     let now : State = (run_frames cat s ms l.forwarded).next in
     let inbox : l.link.inbox ≡ [] = sym (append-nil l.link.inbox) ∙ ap (λ (y : List ℕ). l.link.inbox ++ y) (sym none) ∙ t.bytes ∙ ap₂ (λ (fs : List FrameOf) (y : List ℕ). flat_map spelling fs ++ y) q.none_left whole in

@@ -3,7 +3,7 @@ use Rattle.std.proofs.Common.{◌≡◌, ◌⊎◌, inl, inr, ◌<◌, length-ap
 use Rattle.std.proofs.lemmas.Bool.{cases_Bool, true≢false}
 use Rattle.std.specs.List.{flat_map, AllByRecursion}
 use Rattle.frame_view.specs.declared.Side.TheVariants.{Client, Server}
-use Rattle.frame_view.specs.declared.frames.TheConstants.{LONGEST_FRAME}
+use Rattle.frame_view.specs.declared.frames.TheConstants.{MAX_FRAME}
 use Rattle.frame_view.specs.Frames.{AreBytes, FrameOf, IsFrame, Cut, cut_after, front, frames, spelling}
 use Rattle.frame_view.proofs.Splitting.{frames-split}
 use Rattle.message_view.specs.declared.views.KeyView.{KeyView}
@@ -31,7 +31,7 @@ use Rattle.link_run.specs.declared.reset.ResetError.{ResetError}
 use Rattle.link_run.specs.declared.reset.ResetError.TheVariants.{Lost, Unexpected, Changed, Memory, Turns}
 use Rattle.link_run.specs.declared.reply.Answered.{Answered}
 use Rattle.link_run.specs.declared.reply.Answered.TheVariants.{Nothing, Tag, All}
-use Rattle.link_run.specs.declared.reply.TheConstants.{LONGEST_REPLY}
+use Rattle.link_run.specs.declared.reply.TheConstants.{MAX_REPLY}
 use Rattle.link_run.specs.Links.{kept_by, after_frames, IsFreshLink, IsRestingLink}
 use Rattle.link_run.specs.Receipts.{by_reset, IsClean, IsUsed}
 use Rattle.link_run.specs.Dialogues.{answered_by_all, IsResetAnswer, are_known, IsResetDialogue}
@@ -104,7 +104,7 @@ unfolding cut_after
 reads_nothing = refl
 
 reads_all : (v : ResetView) → IsAnsweredReset v → reads (answer_in v.received) ≡ All
-reads_all v d = ap (λ (b : List ℕ). at_rest (answered_by_all Nothing (answer_in v.received).frames) (front Server LONGEST_REPLY b)) d.whole ∙ d.answer
+reads_all v d = ap (λ (b : List ℕ). at_rest (answered_by_all Nothing (answer_in v.received).frames) (front Server MAX_REPLY b)) d.whole ∙ d.answer
 
 -- once the answer is whole
 pub ends_by : (start : Standing) (v : ResetView) (now : Standing) (turns : ℕ) (cause : ResetError) → IsResetFrom start v → IsAnsweredReset v → FailsAtEnd v now cause → FailsBy v.reports start now turns cause
@@ -136,13 +136,13 @@ paced_to_end start old now v w counter then_at now_at u d o r wr t same =
 
 -- ---- the session behind it
 
-pub all_client : (fs : List FrameOf) → AllByRecursion IsSent fs → AllByRecursion (IsFrame Client LONGEST_FRAME) fs
+pub all_client : (fs : List FrameOf) → AllByRecursion IsSent fs → AllByRecursion (IsFrame Client MAX_FRAME) fs
 all_client [] h = tt
 all_client (f ∷ fs) h = (h.0.whole, all_client fs h.1)
 
-all_longer : (fs : List FrameOf) → AllByRecursion (IsFrame Server LONGEST_REPLY) fs → AllByRecursion (IsFrame Server LONGEST_FRAME) fs
+all_longer : (fs : List FrameOf) → AllByRecursion (IsFrame Server MAX_REPLY) fs → AllByRecursion (IsFrame Server MAX_FRAME) fs
 all_longer [] h = tt
-all_longer (f ∷ fs) h = (record { of_type = h.0.of_type; size = (let s : 4 + length f.body ≤ LONGEST_REPLY = h.0.size in omega (arith, s)) }, all_longer fs h.1)
+all_longer (f ∷ fs) h = (record { of_type = h.0.of_type; size = (let s : 4 + length f.body ≤ MAX_REPLY = h.0.size in omega (arith, s)) }, all_longer fs h.1)
 
 discard_run : (cat : CatalogueOf) (s : State) (marks : List Bool) → (run_frames cat s marks asked).next ≡ (step cat s (first_mark marks) discard_all).next
 unfolding run_frames
@@ -169,7 +169,7 @@ record HasAnswered (key : StartKeyOf) (start : Standing) (r : IsResting start ke
   reported : after_replies r.session.reported got ≡ (fresh_of key start r).origin.reported
   statuses : AllByRecursion IsReportIf got
 
-has_answered : (key : StartKeyOf) (start : Standing) (r : IsResting start key) (got : List FrameOf) (taken : List Packet) (left lost : List ℕ) → AllByRecursion (IsFrame Server LONGEST_REPLY) got → IsResetAnswer got
+has_answered : (key : StartKeyOf) (start : Standing) (r : IsResting start key) (got : List FrameOf) (taken : List Packet) (left lost : List ℕ) → AllByRecursion (IsFrame Server MAX_REPLY) got → IsResetAnswer got
     → MayTakeAll start.server start.stage taken → start.inbox ++ spelling discard_all ≡ packets_bytes taken ++ left → start.outbox ++ flat_map spelling (answers start.server start.stage taken) ≡ flat_map spelling got ++ lost
     → HasAnswered key start r got taken left lost
 has_answered key start r got taken left lost each d lawful ti to =
@@ -184,8 +184,8 @@ has_answered key start r got taken left lost each d lawful ti to =
     let er : flat_map spelling (answers v start.stage taken) ≡ flat_map spelling (run_frames cat s ms i.frames).replies =
     ap (λ (t : Stage). flat_map spelling (answers v t taken)) r.idle.is_open ∙ ap (flat_map spelling) i.replies in
     let eo : flat_map spelling (run_frames cat s ms i.frames).replies ≡ flat_map spelling got ++ lost = sym er ∙ ap (λ (q : List ℕ). q ++ flat_map spelling (answers v start.stage taken)) (sym r.idle.outbox) ∙ to in
-    let a : SplitsOff asked i.frames [] left = split_whole Client LONGEST_FRAME asked i.frames left (omega arith) (record { of_type = refl; size = omega arith }, tt) (all_client i.frames i.sent) ei in
-    let b : SplitsOff (run_frames cat s ms i.frames).replies got [] lost = split_whole Server LONGEST_FRAME (run_frames cat s ms i.frames).replies got lost (omega arith) (run_replies_are_frames cat key s ms i.frames r.reached i.sent) (all_longer got each) eo in
+    let a : SplitsOff asked i.frames [] left = split_whole Client MAX_FRAME asked i.frames left (omega arith) (record { of_type = refl; size = omega arith }, tt) (all_client i.frames i.sent) ei in
+    let b : SplitsOff (run_frames cat s ms i.frames).replies got [] lost = split_whole Server MAX_FRAME (run_frames cat s ms i.frames).replies got lost (omega arith) (run_replies_are_frames cat key s ms i.frames r.reached i.sent) (all_longer got each) eo in
     let q : IsQuiet cat s ms asked got i.frames a.more b.more = settled_is_quiet cat s ms asked got i.frames a.more b.more (is_answered got d) a.all b.all in
     let sent : AllByRecursion IsSent asked = subst (AllByRecursion IsSent) q.all i.sent in
     let unstruck : m ≡ false = answer_unstruck cat s m got r.rests (q.answers ∙ discard_replied cat s ms) d in
@@ -217,17 +217,17 @@ renewed key start now r same idle =
 
 -- ---- a reset that was answered
 
-received_as : (v : ResetView) (d : IsAnsweredReset v) → v.received ≡ flat_map spelling (frames Server LONGEST_REPLY v.received).frames
+received_as : (v : ResetView) (d : IsAnsweredReset v) → v.received ≡ flat_map spelling (frames Server MAX_REPLY v.received).frames
 received_as v d =
-    let s = frames-split Server LONGEST_REPLY v.received d.bytes in
-    s.whole ∙ ap (λ (x : List ℕ). flat_map spelling (frames Server LONGEST_REPLY v.received).frames ++ x) d.whole ∙ append-nil (flat_map spelling (frames Server LONGEST_REPLY v.received).frames)
+    let s = frames-split Server MAX_REPLY v.received d.bytes in
+    s.whole ∙ ap (λ (x : List ℕ). flat_map spelling (frames Server MAX_REPLY v.received).frames ++ x) d.whole ∙ append-nil (flat_map spelling (frames Server MAX_REPLY v.received).frames)
 
 all_sent : (start : Standing) (v : ResetView) (x : IsResetFrom start v) → IsAnsweredReset v → x.sent ≡ spelling discard_all
 all_sent start v x d = sym (append-nil x.sent) ∙ (ap (λ (q : List ℕ). x.sent ++ q) (sym d.sent) ∙ x.all)
 
 -- an answer comes from a server that lived when the reset began
 lived : (start : Standing) (v : ResetView) (x : IsResetFrom start v) → IsAnsweredReset v → start.lives ≡ true
-lived start v x d = ⊎_elim (λ t. t) (λ dead. none (frames Server LONGEST_REPLY v.received).frames d.answer (sym (x.moves.silent dead).1 ∙ received_as v d)) (cases_Bool start.lives)
+lived start v x d = ⊎_elim (λ t. t) (λ dead. none (frames Server MAX_REPLY v.received).frames d.answer (sym (x.moves.silent dead).1 ∙ received_as v d)) (cases_Bool start.lives)
   where
     none : {A : Type 0} → (fs : List FrameOf) → IsResetAnswer fs → [] ≡ flat_map spelling fs → A
     none [] a e = some_answer [] a refl
@@ -250,11 +250,11 @@ module _ (start : Standing) (v : ResetView) (x : IsResetFrom start v) (d : IsAns
   rested = x.used.rests began (lived start v x d)
 
   got : List FrameOf
-  got = (frames Server LONGEST_REPLY v.received).frames
+  got = (frames Server MAX_REPLY v.received).frames
 
-  each : AllByRecursion (IsFrame Server LONGEST_REPLY) got
+  each : AllByRecursion (IsFrame Server MAX_REPLY) got
   unfolding got
-  each = (frames-split Server LONGEST_REPLY v.received d.bytes).each
+  each = (frames-split Server MAX_REPLY v.received d.bytes).each
 
   answered_as : (taken : List Packet) (left lost : List ℕ) → MayTakeAll start.server start.stage taken → start.inbox ++ x.sent ≡ packets_bytes taken ++ left
       → start.outbox ++ flat_map spelling (answers start.server start.stage taken) ≡ v.received ++ lost → HasAnswered v.key start rested.stands got taken left lost
@@ -301,7 +301,7 @@ module _ (start : Standing) (v : ResetView) (x : IsResetFrom start v) (d : IsAns
 
 -- where the end follows nothing is left to fail
 pub reset_knows : (v : ResetView) → IsReset v → IsAnsweredReset v → v.link.follows ≡ true
-    → (are_known v.reports (frames Server LONGEST_REPLY v.received).frames ≡ true) × (is_at_start (after_frames v.reports (frames Server LONGEST_REPLY v.received).frames) ≡ true)
+    → (are_known v.reports (frames Server MAX_REPLY v.received).frames ≡ true) × (is_at_start (after_frames v.reports (frames Server MAX_REPLY v.received).frames) ≡ true)
 unfolding got
 reset_knows v (start, x) d f = knows start v x d f
 
@@ -311,7 +311,7 @@ pub reset_dialogue : (start : Standing) (v : ResetView) (now : Standing) (report
 reset_dialogue start v now reports same told known back d x = record {
   answer = (answer_in v.received).frames;
   moves = subst (λ (b : List ℕ). Moves start (spelling discard_all) now b) (received_as v d) (subst (λ (b : List ℕ). Moves start b now v.received) (all_sent start v x d) (subst (λ (l : Standing). Moves start x.sent l v.received) (sym same) x.moves));
-  each = (frames-split Server LONGEST_REPLY v.received d.bytes).each;
+  each = (frames-split Server MAX_REPLY v.received d.bytes).each;
   whole = d.answer;
   known = known;
   told = told;
@@ -346,12 +346,12 @@ within_unsent n c b r e h l = omega (arith, h, ap length e, length-drop n b, l)
 -- ---- the whole answer
 
 whole_read : (cut : Cut) → cut.rest ≡ [] → reads cut ≡ answered_by_all Nothing cut.frames
-whole_read cut e = ap (λ (b : List ℕ). at_rest (answered_by_all Nothing cut.frames) (front Server LONGEST_REPLY b)) e
+whole_read cut e = ap (λ (b : List ℕ). at_rest (answered_by_all Nothing cut.frames) (front Server MAX_REPLY b)) e
 
-pub answered : (v : ResetView) (bs : List ℕ) (a : Answered) (all : Bool) → bs ≡ v.received → AreBytes bs → a ≡ reads (frames Server LONGEST_REPLY bs) → (all ≡ true → (frames Server LONGEST_REPLY bs).rest ≡ []) → a ≡ All → all ≡ true → v.unsent ≡ [] → IsAnsweredReset v
+pub answered : (v : ResetView) (bs : List ℕ) (a : Answered) (all : Bool) → bs ≡ v.received → AreBytes bs → a ≡ reads (frames Server MAX_REPLY bs) → (all ≡ true → (frames Server MAX_REPLY bs).rest ≡ []) → a ≡ All → all ≡ true → v.unsent ≡ [] → IsAnsweredReset v
 answered v bs a all same b e r d t u = record {
   sent = u;
   bytes = subst AreBytes same b;
-  whole = subst (λ (x : List ℕ). (frames Server LONGEST_REPLY x).rest ≡ []) same (r t);
-  answer = subst (λ (x : List ℕ). IsResetAnswer (frames Server LONGEST_REPLY x).frames) same (sym (whole_read (frames Server LONGEST_REPLY bs) (r t)) ∙ sym e ∙ d);
+  whole = subst (λ (x : List ℕ). (frames Server MAX_REPLY x).rest ≡ []) same (r t);
+  answer = subst (λ (x : List ℕ). IsResetAnswer (frames Server MAX_REPLY x).frames) same (sym (whole_read (frames Server MAX_REPLY bs) (r t)) ∙ sym e ∙ d);
 }

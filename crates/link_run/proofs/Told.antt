@@ -5,7 +5,7 @@ use Rattle.std.specs.List.{flat_map, AllByRecursion}
 use Rattle.std.proofs.lemmas.Bool.{cases_Bool, true≢false}
 use Rattle.frame_view.specs.declared.FrameError.{FrameError}
 use Rattle.frame_view.specs.declared.Side.TheVariants.{Client, Server}
-use Rattle.frame_view.specs.declared.frames.TheConstants.{LONGEST_FRAME}
+use Rattle.frame_view.specs.declared.frames.TheConstants.{MAX_FRAME}
 use Rattle.frame_view.specs.Frames.{AreBytes, FrameOf, IsFrame, Front, AFrame, Lacks, Faulty, cut_after, front, frames, spelling}
 use Rattle.frame_view.proofs.Cuts.{front-spelling}
 use Rattle.frame_view.proofs.Growth.{front-grows}
@@ -27,7 +27,7 @@ use Rattle.server_end.proofs.InSession.{InSession, in_session}
 use Rattle.server_end.proofs.Splits.{SplitsOff, split_whole}
 use Rattle.link_run.specs.declared.reply.Answered.{Answered}
 use Rattle.link_run.specs.declared.reply.Answered.TheVariants.{Nothing, Tag, All, Other}
-use Rattle.link_run.specs.declared.reply.TheConstants.{LONGEST_REPLY}
+use Rattle.link_run.specs.declared.reply.TheConstants.{MAX_REPLY}
 use Rattle.link_run.specs.Dialogues.{answered_by, answered_by_all, IsResetAnswer}
 use Rattle.link_run.specs.Resets.{ResetsAreAnswered, at_rest, reads, ResetView, IsResetFrom, IsDisturbed}
 use Rattle.link_run.proofs.Answering.{asked, all_ends, not_other, some_answer}
@@ -59,7 +59,7 @@ pub record IsAnswering (v : ResetView) : Type 0 where
   replies : List FrameOf
   lost : List ℕ
   answer : IsResetAnswer replies
-  short : AllByRecursion (IsFrame Server LONGEST_REPLY) replies
+  short : AllByRecursion (IsFrame Server MAX_REPLY) replies
   front : v.received ++ lost ≡ flat_map spelling replies
   asked : (v.received ≡ []) ⊎ (v.unsent ≡ [])
 
@@ -117,7 +117,7 @@ answering start v x r none y =
     let i : InSession w s y.taken = in_session w s y.taken (subst (λ (t : Stage). MayTakeAll w t y.taken) r.idle.is_open y.lawful) in
     let sent : x.sent ≡ flat_map spelling i.frames ++ y.left = ap (λ (q : List ℕ). q ++ x.sent) (sym r.idle.inbox) ∙ y.inbox ∙ ap (λ (q : List ℕ). q ++ y.left) i.bytes in
     let all : flat_map spelling asked ≡ flat_map spelling i.frames ++ (y.left ++ v.unsent) = append-nil (spelling discard_all) ∙ sym x.all ∙ ap (λ (q : List ℕ). q ++ v.unsent) sent ∙ append_assoc (flat_map spelling i.frames) y.left v.unsent in
-    let a : SplitsOff asked i.frames [] (y.left ++ v.unsent) = split_whole Client LONGEST_FRAME asked i.frames (y.left ++ v.unsent) (omega arith) (record { of_type = refl; size = omega arith }, tt) (all_client i.frames i.sent) all in
+    let a : SplitsOff asked i.frames [] (y.left ++ v.unsent) = split_whole Client MAX_FRAME asked i.frames (y.left ++ v.unsent) (omega arith) (record { of_type = refl; size = omega arith }, tt) (all_client i.frames i.sent) all in
     let replied : flat_map spelling (answers_to w start.stage y.taken) ≡ flat_map spelling (run_frames cat s ms i.frames).replies = ap (λ (t : Stage). flat_map spelling (answers_to w t y.taken)) r.idle.is_open ∙ ap (flat_map spelling) i.replies in
     by_taken v cat s h.origin ms i.frames a.more y.left y.lost (first_unmarked ms unmarked) (discard_all_gives_fresh cat v.key s h.origin h h.is_fresh r.rests) (resets_are_read cat v.key s h.origin r.reached h.is_fresh r.rests)
     a.all a.bytes (sym replied ∙ ap (λ (q : List ℕ). q ++ flat_map spelling (answers_to w start.stage y.taken)) (sym r.idle.outbox) ∙ y.outbox)
@@ -134,56 +134,56 @@ rest_keeps a (Lacks k) n = refl
 rest_keeps a (Faulty fault) n = absurd (n fault refl)
 
 -- no head that is not lawful stands where whole frames begin
-lawful_rest : (bytes lost : List ℕ) (more : List FrameOf) (fault : FrameError) → AllByRecursion (IsFrame Server LONGEST_REPLY) more → bytes ++ lost ≡ flat_map spelling more ++ [] → front Server LONGEST_REPLY bytes ≡ Faulty fault → ⊥
+lawful_rest : (bytes lost : List ℕ) (more : List FrameOf) (fault : FrameError) → AllByRecursion (IsFrame Server MAX_REPLY) more → bytes ++ lost ≡ flat_map spelling more ++ [] → front Server MAX_REPLY bytes ≡ Faulty fault → ⊥
 lawful_rest bytes lost [] fault h e x =
     let n : bytes ≡ [] = (no_bytes bytes lost e).0 in
-    let y : front Server LONGEST_REPLY [] ≡ Faulty fault = ap (front Server LONGEST_REPLY) (sym n) ∙ x in
+    let y : front Server MAX_REPLY [] ≡ Faulty fault = ap (front Server MAX_REPLY) (sym n) ∙ x in
     absurd cc
 lawful_rest bytes lost (f ∷ more) fault h e x =
-    let a : front Server LONGEST_REPLY (bytes ++ lost) ≡ Faulty fault = (front-grows Server LONGEST_REPLY bytes lost).fault fault x in
-    let b : front Server LONGEST_REPLY (spelling f ++ (flat_map spelling more ++ [])) ≡ AFrame f.kind f.body (flat_map spelling more ++ []) = front-spelling Server LONGEST_REPLY f (flat_map spelling more ++ []) (omega arith) h.0 in
+    let a : front Server MAX_REPLY (bytes ++ lost) ≡ Faulty fault = (front-grows Server MAX_REPLY bytes lost).fault fault x in
+    let b : front Server MAX_REPLY (spelling f ++ (flat_map spelling more ++ [])) ≡ AFrame f.kind f.body (flat_map spelling more ++ []) = front-spelling Server MAX_REPLY f (flat_map spelling more ++ []) (omega arith) h.0 in
     let c : bytes ++ lost ≡ spelling f ++ (flat_map spelling more ++ []) = e ∙ append_assoc (spelling f) (flat_map spelling more) [] in
-    let d : Faulty fault ≡ AFrame f.kind f.body (flat_map spelling more ++ []) = sym a ∙ ap (front Server LONGEST_REPLY) c ∙ b in
+    let d : Faulty fault ≡ AFrame f.kind f.body (flat_map spelling more ++ []) = sym a ∙ ap (front Server MAX_REPLY) c ∙ b in
     absurd cc
 
-none_in : (frames Server LONGEST_REPLY []).frames ≡ []
+none_in : (frames Server MAX_REPLY []).frames ≡ []
 unfolding cut_after
 none_in = refl
 
 module _ (v : ResetView) (x : IsAnswering v) (bytes : AreBytes v.received) where
   got : List FrameOf
-  got = (frames Server LONGEST_REPLY v.received).frames
+  got = (frames Server MAX_REPLY v.received).frames
 
   rest : List ℕ
-  rest = (frames Server LONGEST_REPLY v.received).rest
+  rest = (frames Server MAX_REPLY v.received).rest
 
   splits : SplitsOff x.replies got [] (rest ++ x.lost)
   unfolding got rest
   splits =
-      let s = frames-split Server LONGEST_REPLY v.received bytes in
-      split_whole Server LONGEST_REPLY x.replies got (rest ++ x.lost) (omega arith) x.short s.each (sym x.front ∙ ap (λ (q : List ℕ). q ++ x.lost) s.whole ∙ append_assoc (flat_map spelling got) rest x.lost)
+      let s = frames-split Server MAX_REPLY v.received bytes in
+      split_whole Server MAX_REPLY x.replies got (rest ++ x.lost) (omega arith) x.short s.each (sym x.front ∙ ap (λ (q : List ℕ). q ++ x.lost) s.whole ∙ append_assoc (flat_map spelling got) rest x.lost)
 
-  read_as : reads (frames Server LONGEST_REPLY v.received) ≡ answered_by_all Nothing got
+  read_as : reads (frames Server MAX_REPLY v.received) ≡ answered_by_all Nothing got
   unfolding got rest
-  read_as = rest_keeps (answered_by_all Nothing got) (front Server LONGEST_REPLY rest) (λ fault. lawful_rest rest x.lost splits.more fault (back got splits.more (subst (AllByRecursion (IsFrame Server LONGEST_REPLY)) splits.all x.short)) splits.bytes)
+  read_as = rest_keeps (answered_by_all Nothing got) (front Server MAX_REPLY rest) (λ fault. lawful_rest rest x.lost splits.more fault (back got splits.more (subst (AllByRecursion (IsFrame Server MAX_REPLY)) splits.all x.short)) splits.bytes)
     where
-      back : (fs gs : List FrameOf) → AllByRecursion (IsFrame Server LONGEST_REPLY) (fs ++ gs) → AllByRecursion (IsFrame Server LONGEST_REPLY) gs
+      back : (fs gs : List FrameOf) → AllByRecursion (IsFrame Server MAX_REPLY) (fs ++ gs) → AllByRecursion (IsFrame Server MAX_REPLY) gs
       back [] gs h = h
       back (f ∷ fs) gs h = back fs gs h.1
 
   then_answer : answered_by_all (answered_by_all Nothing got) splits.more ≡ All
   then_answer = sym (goes_on Nothing got splits.more) ∙ ap (answered_by_all Nothing) (sym splits.all) ∙ x.answer
 
-  pub never_other : reads (frames Server LONGEST_REPLY v.received) ≡ Other → ⊥
+  pub never_other : reads (frames Server MAX_REPLY v.received) ≡ Other → ⊥
   never_other e = not_other splits.more (ap (λ (a : Answered). answered_by_all a splits.more) (sym e ∙ read_as) ∙ then_answer)
 
-  pub all_came : reads (frames Server LONGEST_REPLY v.received) ≡ All → ((frames Server LONGEST_REPLY v.received).rest ≡ []) × (v.unsent ≡ [])
+  pub all_came : reads (frames Server MAX_REPLY v.received) ≡ All → ((frames Server MAX_REPLY v.received).rest ≡ []) × (v.unsent ≡ [])
   unfolding got rest
   all_came e =
       let d : answered_by_all Nothing got ≡ All = sym read_as ∙ e in
       let none : splits.more ≡ [] = all_ends splits.more (ap (λ (a : Answered). answered_by_all a splits.more) (sym d) ∙ then_answer) in (
         (no_bytes rest x.lost (splits.bytes ∙ ap (λ (gs : List FrameOf). flat_map spelling gs ++ []) none)).0,
-        ⊎_elim (λ n. some_answer got d (ap (λ (b : List ℕ). (frames Server LONGEST_REPLY b).frames) n ∙ none_in)) (λ u. u) x.asked,
+        ⊎_elim (λ n. some_answer got d (ap (λ (b : List ℕ). (frames Server MAX_REPLY b).frames) n ∙ none_in)) (λ u. u) x.asked,
       )
 
 -- ---- a reset of an end that follows
@@ -198,14 +198,14 @@ reset_answering v start x f none = by (cases_Bool start.lives)
     by (inl lives) = answering start v x (x.used.rests began lives).stands none (x.moves.passed began lives)
     by (inr dead) = nothing_came v (x.moves.silent dead).1
 
-pub no_other : (v : ResetView) (bs : List ℕ) (a : Answered) → bs ≡ v.received → AreBytes bs → a ≡ reads (frames Server LONGEST_REPLY bs) → (start : Standing) (x : IsResetFrom start v) → a ≡ Other → v.link.follows ≡ true → was_struck start v.link ≡ false → ⊥
-no_other v bs a same b e start x d f none = never_other v (reset_answering v start x f none) (subst AreBytes same b) (ap (λ (q : List ℕ). reads (frames Server LONGEST_REPLY q)) (sym same) ∙ sym e ∙ d)
+pub no_other : (v : ResetView) (bs : List ℕ) (a : Answered) → bs ≡ v.received → AreBytes bs → a ≡ reads (frames Server MAX_REPLY bs) → (start : Standing) (x : IsResetFrom start v) → a ≡ Other → v.link.follows ≡ true → was_struck start v.link ≡ false → ⊥
+no_other v bs a same b e start x d f none = never_other v (reset_answering v start x f none) (subst AreBytes same b) (ap (λ (q : List ℕ). reads (frames Server MAX_REPLY q)) (sym same) ∙ sym e ∙ d)
 
 -- once the answer is whole, all was sent and nothing stands behind it
-pub none_early : (v : ResetView) (bs : List ℕ) (a : Answered) → bs ≡ v.received → AreBytes bs → a ≡ reads (frames Server LONGEST_REPLY bs) → (start : Standing) (x : IsResetFrom start v) → a ≡ All → v.link.follows ≡ true → was_struck start v.link ≡ false → ((frames Server LONGEST_REPLY bs).rest ≡ []) × (v.unsent ≡ [])
+pub none_early : (v : ResetView) (bs : List ℕ) (a : Answered) → bs ≡ v.received → AreBytes bs → a ≡ reads (frames Server MAX_REPLY bs) → (start : Standing) (x : IsResetFrom start v) → a ≡ All → v.link.follows ≡ true → was_struck start v.link ≡ false → ((frames Server MAX_REPLY bs).rest ≡ []) × (v.unsent ≡ [])
 none_early v bs a same b e start x d f none =
-    let c = all_came v (reset_answering v start x f none) (subst AreBytes same b) (ap (λ (q : List ℕ). reads (frames Server LONGEST_REPLY q)) (sym same) ∙ sym e ∙ d) in
-    (ap (λ (q : List ℕ). (frames Server LONGEST_REPLY q).rest) same ∙ c.0, c.1)
+    let c = all_came v (reset_answering v start x f none) (subst AreBytes same b) (ap (λ (q : List ℕ). reads (frames Server MAX_REPLY q)) (sym same) ∙ sym e ∙ d) in
+    (ap (λ (q : List ℕ). (frames Server MAX_REPLY q).rest) same ∙ c.0, c.1)
 
 pub some_unsent : (n : ℕ) → n < 17 → drop n (spelling discard_all) ≡ [] → ⊥
 some_unsent n h e = omega (arith, h, ap length e, length-drop n (spelling discard_all))

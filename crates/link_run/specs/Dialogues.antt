@@ -21,7 +21,7 @@ use Rattle.server_end.specs.Standing.{Standing, Moves}
 use Rattle.link_run.specs.Links.{after_frame, after_frames}
 use Rattle.link_run.specs.declared.reply.Answered.{Answered}
 use Rattle.link_run.specs.declared.reply.Answered.TheVariants.{Nothing, Tag, All, Other}
-use Rattle.link_run.specs.declared.reply.TheConstants.{LONGEST_REPLY}
+use Rattle.link_run.specs.declared.reply.TheConstants.{MAX_REPLY}
 use Rattle.link_run.specs.declared.sasl.TheConstants.{ASKS_SASL, SASL_CONTINUES, SASL_ENDS}
 
 -- ---- the answer to a start
@@ -180,7 +180,7 @@ are_known kept (f ∷ fs) = is_known kept f && are_known (after_frame kept f) fs
 pub record IsResetDialogue (start : Standing) (kept : List Kept) (now : Standing) (reports : List Kept) : Type 0 where
   pub answer : List FrameOf
   pub moves : Moves start (spelling discard_all) now (flat_map spelling answer)
-  pub each : AllByRecursion (IsFrame Server LONGEST_REPLY) answer
+  pub each : AllByRecursion (IsFrame Server MAX_REPLY) answer
   pub whole : IsResetAnswer answer
   pub known : are_known kept answer ≡ true
   pub told : reports ≡ after_frames kept answer

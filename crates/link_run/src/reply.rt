@@ -1,7 +1,7 @@
 //! What a server answers to a reset, frame by frame.
 ghost use Rattle.std.specs.Prelude.{◌≡◌, ◌≢◌, ◌⊎◌, [], ◌∷◌, false, true, IfSome};
 ghost use Rattle.std.specs.Option.{IfNone};
-ghost use Rattle.link_run.specs.declared.reply.TheConstants.{LONGEST_REPLY};
+ghost use Rattle.link_run.specs.declared.reply.TheConstants.{MAX_REPLY};
 ghost use Rattle.link_run.specs.declared.reply.Answered.TheVariants.{All, Other};
 ghost use Rattle.frame_view.specs.Frames.{AreBytes, front, frames, spelling};
 ghost use Rattle.frame_view.specs.declared.Side.TheVariants.{Server};
@@ -18,7 +18,7 @@ use message_view::StatusView;
 use param_track::Reported;
 
 /// The greatest length of a frame in a start or a reset.
-pub const LONGEST_REPLY: u32 = 65_536;
+pub const MAX_REPLY: u32 = 65_536;
 
 /// The whole frames at the front of an answer, one after the other.
 #[derive(Clone, Copy, Drop)]
@@ -51,7 +51,7 @@ impl<'a> ReplyFrames<'a> {
         ensures whole { IfSome result (λ f. AreBytes self.old.rest.now → f.whole.now ≡ spelling (frame_of f)) }
         ensures bytes { AreBytes self.old.rest.now → AreBytes self.new.rest.now }
     {
-        match next_frame(self.rest, 0, LONGEST_REPLY, Side::Server) {
+        match next_frame(self.rest, 0, MAX_REPLY, Side::Server) {
             Step::Whole(frame) => {
                 self.rest = &self.rest[frame.whole.len()..];
                 Some(frame)
@@ -153,9 +153,9 @@ impl Answered {
 
     /// The same, by what stands behind the whole frames: a head that isn't lawful is no part of an answer.
     fn at_rest(self, rest: &[u8]) -> Answered
-        ensures { result ≡ at_rest self (front Server LONGEST_REPLY rest.now) }
+        ensures { result ≡ at_rest self (front Server MAX_REPLY rest.now) }
     {
-        match next_frame(rest, 0, LONGEST_REPLY, Side::Server) {
+        match next_frame(rest, 0, MAX_REPLY, Side::Server) {
             Step::Whole(_) | Step::Need(_) => self,
             Step::Bad(_) => Answered::Other,
         }
@@ -164,10 +164,10 @@ impl Answered {
 
 /// What the whole frames of these bytes and the head behind them come to, and whether nothing stands behind the frames.
 pub(crate) fn read_reply(reply: &[u8]) -> (Answered, bool)
-    ensures answered { result.0 ≡ reads (frames Server LONGEST_REPLY reply.now) }
+    ensures answered { result.0 ≡ reads (frames Server MAX_REPLY reply.now) }
     ensures bytes { AreBytes reply.now }
-    ensures rest { result.1 ≡ true → (frames Server LONGEST_REPLY reply.now).rest ≡ [] }
-    ensures behind { result.1 ≡ false → (frames Server LONGEST_REPLY reply.now).rest ≢ [] }
+    ensures rest { result.1 ≡ true → (frames Server MAX_REPLY reply.now).rest ≡ [] }
+    ensures behind { result.1 ≡ false → (frames Server MAX_REPLY reply.now).rest ≢ [] }
 {
     are_bytes(reply);
     let mut answered = Answered::Nothing;
@@ -195,8 +195,8 @@ fn tell_report(frame: Frame<'_>, reported: &mut Reported) -> bool
 /// Keeps the reports among the whole frames of these bytes; `false`: one of them can't be read, or the start didn't report its
 /// name.
 pub(crate) fn tell_reports(reply: &[u8], reported: &mut Reported) -> bool
-    ensures known { result ≡ are_known reported.old (frames Server LONGEST_REPLY reply.now).frames }
-    ensures told { reported.new ≡ after_frames reported.old (frames Server LONGEST_REPLY reply.now).frames }
+    ensures known { result ≡ are_known reported.old (frames Server MAX_REPLY reply.now).frames }
+    ensures told { reported.new ≡ after_frames reported.old (frames Server MAX_REPLY reply.now).frames }
 {
     let mut known = true;
     for frame in ReplyFrames::of(reply) {

@@ -26,7 +26,7 @@ pub enum ResetError {
     /// The end faulted or ended.
     Lost,
     /// Something else was answered, a report can't be read or is of a name that the start didn't report, or a frame is longer
-    /// than [`crate::reply::LONGEST_REPLY`].
+    /// than [`crate::reply::MAX_REPLY`].
     Unexpected,
     /// After the reset the reported values aren't those of the start.
     Changed,

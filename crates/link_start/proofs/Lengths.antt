@@ -15,7 +15,7 @@ use Rattle.link_laws.specs.Stages.{Server, Auth, Question, Round, asks, goes_on,
 use Rattle.link_laws.specs.Starts.{start_body}
 use Rattle.link_laws.specs.Dialogues.{answer_message, answer_packets, start_replies, IsShortReply}
 use Rattle.credentials.specs.Credentials.{CredentialOf}
-use Rattle.link_start.specs.declared.start.TheConstants.{LONGEST_WELCOME}
+use Rattle.link_start.specs.declared.start.TheConstants.{MAX_WELCOME}
 use Rattle.link_start.specs.declared.start_reply.StartProgress.{StartProgress}
 use Rattle.link_start.specs.declared.start_reply.StartProgress.TheVariants.{Nothing, Asked, Proved, LetIn, Ready, Refused, Other}
 use Rattle.link_start.specs.declared.start_reply.ServerQuestion.{ServerQuestion}
@@ -110,5 +110,5 @@ spelled_length (f ∷ fs) s =
     omega (arith, s.0.size, spelled_length fs s.1, length-append (spelling f) (flat_map spelling fs), length-append (to_be_bytes w32 (4 + length f.body)) f.body)
 
 pub replies_are_short : (cred : CredentialOf) (user : Text) (v : Server) (auth : Auth) (key : StartKeyOf) (given : List (List ℕ)) → AsksQuestions cred user auth → AreOwn cred user auth given → AllByRecursion IsShortReply (start_replies v auth key given)
-    → length (flat_map spelling (start_replies v auth key given)) ≤ LONGEST_WELCOME
+    → length (flat_map spelling (start_replies v auth key given)) ≤ MAX_WELCOME
 replies_are_short cred user v auth key given a own each = omega (arith, replies_count cred user v auth key given a own, spelled_length (start_replies v auth key given) each)

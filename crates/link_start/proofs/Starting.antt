@@ -31,7 +31,7 @@ use Rattle.link_run.specs.Receipts.{HasStarted, IsClean, by_start}
 use Rattle.link_start.specs.declared.start_reply.StartProgress.{StartProgress}
 use Rattle.link_start.specs.declared.start_reply.StartProgress.TheVariants.{Nothing, Asked, Proved, LetIn, Ready, Refused, Other}
 use Rattle.link_start.specs.declared.start_reply.ServerQuestion.{ServerQuestion}
-use Rattle.link_start.specs.declared.start.TheConstants.{LONGEST_WELCOME}
+use Rattle.link_start.specs.declared.start.TheConstants.{MAX_WELCOME}
 use Rattle.link_start.specs.declared.start.StartCause.{StartCause}
 use Rattle.link_start.specs.declared.start.StartCause.TheVariants.{Lost, Unanswerable, Unexpected, Memory, Turns, Late}
 use Rattle.link_start.specs.declared.start.StartCause.TheVariants as causes
@@ -270,7 +270,7 @@ module _ (began : Standing) (cred : CredentialOf) (v : StartView) (c : CanStart 
       ap (λ (bs : List ℕ). bs ++ told.lost) split.whole ∙ append_assoc (flat_map spelling got) tail told.lost
       ∙ ap (λ (bs : List ℕ). flat_map spelling got ++ bs) told.bytes ∙ sym (flat_map-append spelling got told.more) ∙ ap (flat_map spelling) (sym told.frames)
 
-  pub never_too_long : length v.received ≤ LONGEST_WELCOME
+  pub never_too_long : length v.received ≤ MAX_WELCOME
   unfolding replies auth
   never_too_long = omega (arith, length-append v.received told.lost, ap length answers_more, replies_are_short cred v.key.user began.server auth v.key x.given can.questions (x.own f) shorts)
 
@@ -466,7 +466,7 @@ has_tried began cred v turns x t w = record {
 }
 
 -- more came than any start's answer has, and more of it is to come
-pub long_cause : (began : Standing) (cred : CredentialOf) (v : StartView) → CanStart cred v.key.user began → IsLinkKey v.key → IsStartUnderWay began cred v → AreBytes v.received → LONGEST_WELCOME < length v.received → IsWaitingStart cred v
+pub long_cause : (began : Standing) (cred : CredentialOf) (v : StartView) → CanStart cred v.key.user began → IsLinkKey v.key → IsStartUnderWay began cred v → AreBytes v.received → MAX_WELCOME < length v.received → IsWaitingStart cred v
     → IsStartCause began v.end cred v.key Unexpected
 long_cause began cred v c k x bytes l w = (
   came_as began cred v (IsUnexpectedHeard cred) x (inr (inr (l, still_waits (heard cred v.received) (IsAnsweredBy v.answered) (λ q. Unit {0}) (λ q _. tt) w))),

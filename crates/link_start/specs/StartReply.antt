@@ -11,7 +11,7 @@ use Rattle.param_track.specs.Kept.{Kept}
 use Rattle.credentials.specs.Credentials.{CredentialOf}
 use Rattle.credentials.specs.Exchanges.{ExchangeOf, exchange_of}
 use Rattle.link_run.specs.Dialogues.{IsStartAnswer, offers_scram, reported_all, reported_by}
-use Rattle.link_run.specs.declared.reply.TheConstants.{LONGEST_REPLY}
+use Rattle.link_run.specs.declared.reply.TheConstants.{MAX_REPLY}
 use Rattle.link_run.specs.declared.sasl.TheConstants.{ASKS_SASL, SASL_CONTINUES, SASL_ENDS}
 use Rattle.link_start.specs.declared.start_reply.StartProgress.{StartProgress}
 use Rattle.link_start.specs.declared.start_reply.StartProgress.TheVariants.{Nothing, Asked, Proved, LetIn, Ready, Refused, Other}
@@ -135,10 +135,10 @@ if_lawful h (AFrame kind body rest) = h
 if_lawful h (Lacks n) = h
 
 abbrev pub before : CredentialOf → StartProgress → List ℕ → StartProgress
-before c Nothing rest = if_lawful Nothing (front Server LONGEST_REPLY rest)
-before c (Asked q) rest = if can_answer c q then if_lawful (Asked q) (front Server LONGEST_REPLY rest) else Asked q
-before c Proved rest = if_lawful Proved (front Server LONGEST_REPLY rest)
-before c LetIn rest = if_lawful LetIn (front Server LONGEST_REPLY rest)
+before c Nothing rest = if_lawful Nothing (front Server MAX_REPLY rest)
+before c (Asked q) rest = if can_answer c q then if_lawful (Asked q) (front Server MAX_REPLY rest) else Asked q
+before c Proved rest = if_lawful Proved (front Server MAX_REPLY rest)
+before c LetIn rest = if_lawful LetIn (front Server MAX_REPLY rest)
 before c Ready rest = bare Ready rest
 before c Refused rest = Refused
 before c Other rest = Other
@@ -147,7 +147,7 @@ abbrev pub heard_cut : CredentialOf → Cut → StartProgress
 heard_cut c cut = before c (heard_all c Nothing cut.frames) cut.rest
 
 abbrev pub heard : CredentialOf → List ℕ → StartProgress
-heard c bytes = heard_cut c (frames Server LONGEST_REPLY bytes)
+heard c bytes = heard_cut c (frames Server MAX_REPLY bytes)
 
 -- what a start fails by
 abbrev pub IsEnd : CredentialOf → StartProgress → Type 0

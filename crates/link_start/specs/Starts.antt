@@ -15,11 +15,11 @@ use Rattle.link_laws.specs.Standing.{Standing, Moves}
 use Rattle.link_laws.specs.Dialogues.{IsNew, AsksInFrame, IsStarting, auth_of, start_error, start_refusal}
 use Rattle.link_run.specs.Dialogues.{TellsKey, keyed_all, reported_all}
 use Rattle.link_run.specs.Links.{LinkView}
-use Rattle.link_run.specs.declared.reply.TheConstants.{LONGEST_REPLY}
+use Rattle.link_run.specs.declared.reply.TheConstants.{MAX_REPLY}
 use Rattle.link_start.specs.declared.start_reply.StartProgress.{StartProgress}
 use Rattle.link_start.specs.declared.start_reply.StartProgress.TheVariants as heard
 use Rattle.link_start.specs.declared.start_reply.ServerQuestion.{ServerQuestion}
-use Rattle.link_start.specs.declared.start.TheConstants.{CHUNK, LONGEST_WELCOME}
+use Rattle.link_start.specs.declared.start.TheConstants.{CHUNK, MAX_WELCOME}
 use Rattle.link_start.specs.declared.start.StartCause.{StartCause}
 use Rattle.link_start.specs.declared.start.StartCause.TheVariants.{Refused, Lost, Unanswerable, Unexpected, Memory, Turns, Late}
 use Rattle.link_start.specs.Questions.{answer_to, answers_wanted}
@@ -156,8 +156,8 @@ pub record IsStarted (began : Standing) (c : CredentialOf) (l : LinkView) : Type
   pub answered : ℕ
   pub under_way : IsStartUnderWay began c (start_view l.stands l.key l.number l.born answered [] received)
   pub ready : spec.heard c received ≡ heard.Ready
-  pub reports : reported_all [] (frames Server LONGEST_REPLY received).frames ≡ Some l.reports
-  pub tells_key : TellsKey (frames Server LONGEST_REPLY received).frames l.server_key
+  pub reports : reported_all [] (frames Server MAX_REPLY received).frames ≡ Some l.reports
+  pub tells_key : TellsKey (frames Server MAX_REPLY received).frames l.server_key
 
 -- the words of this server's BackendKeyData, where they fit its fields
 abbrev pub IsOwnKey : TheServer → Option KeyView → Type 0
@@ -214,7 +214,7 @@ pub record CameAs (began now : Standing) (Says : List ℕ → Type 0) : Type 0 w
   pub says : Says received
 
 abbrev pub answer_in : List ℕ → List FrameOf
-answer_in received = (frames Server LONGEST_REPLY received).frames
+answer_in received = (frames Server MAX_REPLY received).frames
 
 -- the first ErrorResponse in it is this one
 abbrev pub IsErrorHeard : CredentialOf → List ℕ → List ℕ → Type 0
@@ -244,7 +244,7 @@ IsUnreadable received = (reported_all [] (answer_in received) ≡ None) ⊎ ((fa
 
 -- more bytes than a welcome has, and more of the answer is to come
 abbrev pub IsTooLong : CredentialOf → List ℕ → Type 0
-IsTooLong c received = (LONGEST_WELCOME < length received) × IsWaiting (spec.heard c received) (λ question. Unit {0})
+IsTooLong c received = (MAX_WELCOME < length received) × IsWaiting (spec.heard c received) (λ question. Unit {0})
 
 -- something else; or a whole welcome that can't be read; or one that is too long
 abbrev pub IsUnexpectedHeard : CredentialOf → List ℕ → Type 0
@@ -283,7 +283,7 @@ TakesTurns began now then_at now_at turns = now_at + moved_of began ≤ then_at 
 
 -- What came since then is at most the longest welcome, and one read more.
 abbrev pub IsBounded : Standing → Standing → Type 0
-IsBounded began now = length now.given ≤ length began.given + (LONGEST_WELCOME + CHUNK)
+IsBounded began now = length now.given ≤ length began.given + (MAX_WELCOME + CHUNK)
 
 -- At most one call that came to nothing in each turn taken.
 abbrev pub IsStartPaced : Standing → Standing → ℕ → ℕ → Type 0
@@ -297,7 +297,7 @@ IsStartPacedToEnd began now then_at now_at = waits_of now + then_at < waits_of b
 
 -- How many bytes may still be moved, at most: those up to the longest welcome, those unsent, and those of two answers until they are given.
 abbrev pub bytes_left : StartView → ℕ
-bytes_left v = (LONGEST_WELCOME - length v.received) + (length v.unsent + (2 - v.answered) * 2 ^ 33)
+bytes_left v = (MAX_WELCOME - length v.received) + (length v.unsent + (2 - v.answered) * 2 ^ 33)
 
 -- whatever comes of a call, no count falls
 abbrev pub CountsOn : StartView → StartView → Type 0

@@ -2,7 +2,7 @@
 ghost use Rattle.std.specs.Prelude.{◌≡◌, ◌≢◌, ◌+◌, ◌<◌, ◌≤◌, [], false, if◌then◌else◌, IfErr, IfOk, MatchResult, OnOk, length, true};
 ghost use Rattle.frame_view.specs.Frames.{AreBytes, frames};
 ghost use Rattle.frame_view.specs.declared.Side.TheVariants.{Server};
-ghost use Rattle.link_run.specs.declared.reply.TheConstants.{LONGEST_REPLY};
+ghost use Rattle.link_run.specs.declared.reply.TheConstants.{MAX_REPLY};
 ghost use Rattle.std.specs.Arc.{arc_value};
 ghost use Rattle.link_laws.specs.Standing.{Standing};
 ghost use Rattle.link_start.specs.StartReply.{error_in, heard};
@@ -16,7 +16,8 @@ ghost use Rattle.link_start.specs.Starts.{CanStart, CountsOn, HasTried, IsBounde
 
 use crate::messages::{put_answer, startup_message};
 use crate::start_reply::{
-    TakeReportError, ServerQuestion, StartProgress, error_in, key_told, read_start_reply, take_reports,
+    ServerQuestion, StartProgress, TakeReportError, error_in, key_told, read_start_reply,
+    take_reports,
 };
 use bytes::BytesMut;
 use credentials::Credential;
@@ -34,8 +35,8 @@ use std::sync::Arc;
 const CHUNK: usize = 256;
 
 /// The bytes of a server's answer to a start after which no more is waited for. A welcome has at most some hundred thousand: a question,
-/// AuthenticationOk, a report of each parameter and the key are a frame each, of at most [`link_run::reply::LONGEST_REPLY`].
-pub const LONGEST_WELCOME: usize = 1_048_576;
+/// AuthenticationOk, a report of each parameter and the key are a frame each, of at most [`link_run::reply::MAX_REPLY`].
+pub const MAX_WELCOME: usize = 1_048_576;
 
 /// The ErrorResponse by which a server refused a start.
 pub struct StartError {
@@ -52,12 +53,12 @@ impl Model for StartError {
     ghost use Rattle.std.specs.Prelude.{ℕ, List};
     ghost use Rattle.frame_view.specs.Frames.{frames};
     ghost use Rattle.frame_view.specs.declared.Side.TheVariants.{Server};
-    ghost use Rattle.link_run.specs.declared.reply.TheConstants.{LONGEST_REPLY};
+    ghost use Rattle.link_run.specs.declared.reply.TheConstants.{MAX_REPLY};
     ghost use Rattle.link_start.specs.StartReply.{error_in};
 
     ghost Value = { List ℕ };
 
-    ghost view = { λ e. error_in (frames Server LONGEST_REPLY e.reply.items).frames };
+    ghost view = { λ e. error_in (frames Server MAX_REPLY e.reply.items).frames };
 }
 
 impl StartError {
@@ -83,7 +84,7 @@ pub enum StartCause {
     Unanswerable(ServerQuestion),
     /// Something else was answered, so a challenge that doesn't continue our nonce or is salted otherwise than our verifier, another proof
     /// than the server's own, or AuthenticationOk before that; a report or the server's key can't be read, more than 64 names were reported, a frame is longer
-    /// than [`link_run::reply::LONGEST_REPLY`], or more than [`LONGEST_WELCOME`] bytes came and the answer isn't whole.
+    /// than [`link_run::reply::MAX_REPLY`], or more than [`MAX_WELCOME`] bytes came and the answer isn't whole.
     Unexpected,
     /// An allocation failed, or the key has no StartupMessage of the greatest length.
     Memory,
@@ -268,7 +269,7 @@ impl<E: ServerEnd> Start<E> {
         ensures given { length self.new.end.given ≤ length self.old.end.given + CHUNK }
         ensures left { bytes_left self.new ≤ bytes_left self.old }
         ensures moved { IfOk result (λ m. m ≡ true → moved_of self.old.end < moved_of self.new.end) }
-        ensures fewer { IfOk result (λ m. m ≡ true → length self.new.received ≤ LONGEST_WELCOME → bytes_left self.new < bytes_left self.old) }
+        ensures fewer { IfOk result (λ m. m ≡ true → length self.new.received ≤ MAX_WELCOME → bytes_left self.new < bytes_left self.old) }
         ensures idle { IfOk result (λ m. m ≡ false → waits_of self.old.end < waits_of self.new.end) }
         ensures cause { IfErr result (λ c. IsEndCause self.old.end self.new.end c) }
     {
@@ -293,10 +294,10 @@ impl<E: ServerEnd> Start<E> {
 
     /// More came than a welcome has.
     fn is_too_long(&self) -> bool
-        ensures long { result ≡ true → LONGEST_WELCOME < length self.now.received }
-        ensures short { result ≡ false → length self.now.received ≤ LONGEST_WELCOME }
+        ensures long { result ≡ true → MAX_WELCOME < length self.now.received }
+        ensures short { result ≡ false → length self.now.received ≤ MAX_WELCOME }
     {
-        self.reply.len() > LONGEST_WELCOME
+        self.reply.len() > MAX_WELCOME
     }
 
     /// How far the server's answer has come, for a user with this credential.
@@ -401,7 +402,7 @@ impl<E: ServerEnd> Start<E> {
         ensures welcomed { IfOk result (λ p. p ≡ progress.Ready → IsWelcomed credential.now self.new) }
         ensures counts { CountsOn self.old self.new }
         ensures given { length self.new.end.given ≤ length self.old.end.given + CHUNK }
-        ensures short { IfOk result (λ p. p ≢ progress.Ready → length self.old.received ≤ LONGEST_WELCOME → length self.new.received ≤ LONGEST_WELCOME) }
+        ensures short { IfOk result (λ p. p ≢ progress.Ready → length self.old.received ≤ MAX_WELCOME → length self.new.received ≤ MAX_WELCOME) }
         ensures left { OnOk result (bytes_left self.new ≤ bytes_left self.old) }
         ensures moved { IfOk result (λ p. p ≡ progress.Moved → moved_of self.old.end < moved_of self.new.end) }
         ensures fewer { IfOk result (λ p. p ≡ progress.Moved → bytes_left self.new < bytes_left self.old) }
@@ -427,7 +428,7 @@ impl<E: ServerEnd> Start<E> {
     }
 
     fn take_error(&mut self, alloc: Global) -> StartError
-        ensures error { result ≡ error_in (frames Server LONGEST_REPLY self.old.received).frames }
+        ensures error { result ≡ error_in (frames Server MAX_REPLY self.old.received).frames }
         ensures end { self.new.end ≡ self.old.end }
         ensures same { IsSameStart self.old self.new }
     {
@@ -512,7 +513,7 @@ impl<E: ServerEnd> Start<E> {
 /// read before all was sent, nor after the ReadyForQuery.
 ///
 /// Turns are for waiting: only one in which no byte was sent and none came counts against `turns`, so an answer that comes byte by byte
-/// uses up none. The answer has its own bound: once more than [`LONGEST_WELCOME`] bytes came and it isn't whole, the start fails by
+/// uses up none. The answer has its own bound: once more than [`MAX_WELCOME`] bytes came and it isn't whole, the start fails by
 /// Unexpected. And the gate has its time, if it was set a limit: before each turn it is asked whether that is over, whatever came in the
 /// turns before, and then the start fails by Late.
 ///

@@ -2,7 +2,7 @@
 ghost use Rattle.std.specs.Prelude.{◌≡◌, [], ℕ, List, Ok, Err, None, IfOk};
 ghost use Rattle.frame_view.specs.Frames.{AreBytes, front, frames};
 ghost use Rattle.frame_view.specs.declared.Side.TheVariants.{Server};
-ghost use Rattle.link_run.specs.declared.reply.TheConstants.{LONGEST_REPLY};
+ghost use Rattle.link_run.specs.declared.reply.TheConstants.{MAX_REPLY};
 ghost use Rattle.session_values.specs.Answers.{frame_of};
 ghost use Rattle.link_run.specs.Dialogues.{keyed_all, keyed_by, offers_scram};
 ghost use Rattle.link_start.specs.Questions.{answers_wanted, can_answer, number_of};
@@ -18,7 +18,7 @@ use frame_view::server::{
     READY_FOR_QUERY,
 };
 use frame_view::{Frame, Side, Step, next_frame};
-use link_run::reply::{LONGEST_REPLY, ReplyFrames};
+use link_run::reply::{MAX_REPLY, ReplyFrames};
 use link_run::sasl::{ASKS_SASL, SASL_CONTINUES, SASL_ENDS};
 use message_view::kinds::{ASKS_CLEARTEXT, ASKS_MD5, ASKS_NOTHING};
 use message_view::{AuthView, KeyView, StatusView, ViewError};
@@ -305,9 +305,9 @@ impl StartProgress {
 
     /// The same, where these bytes may be a beginning of the next frame.
     fn if_lawful(self, rest: &[u8]) -> StartProgress
-        ensures { result ≡ spec.if_lawful self (front Server LONGEST_REPLY rest.now) }
+        ensures { result ≡ spec.if_lawful self (front Server MAX_REPLY rest.now) }
     {
-        match next_frame(rest, 0, LONGEST_REPLY, Side::Server) {
+        match next_frame(rest, 0, MAX_REPLY, Side::Server) {
             Step::Bad(_) => StartProgress::Other,
             _ => self,
         }
@@ -357,7 +357,7 @@ pub(crate) fn read_start_reply(
 
 /// The first ErrorResponse among the whole frames of these bytes; empty where there is none.
 pub(crate) fn error_in(reply: &[u8]) -> &[u8]
-    ensures { result.now ≡ error_in (frames Server LONGEST_REPLY reply.now).frames }
+    ensures { result.now ≡ error_in (frames Server MAX_REPLY reply.now).frames }
 {
     are_bytes(reply);
     let mut frames = ReplyFrames::of(reply);
@@ -372,14 +372,18 @@ pub(crate) fn error_in(reply: &[u8]) -> &[u8]
 /// Why a start's reports weren't taken.
 #[derive(Clone, Copy, Drop)]
 pub(crate) enum TakeReportError {
-    /// One can't be read, or there are more than [`param_track::MOST_NAMES`] names.
+    /// One can't be read, or there are more than [`param_track::MAX_NAMES`] names.
     Unexpected,
     /// An allocation failed.
     Memory,
 }
 
 /// Takes the report of a ParameterStatus; another frame reports nothing.
-fn take_report(alloc: Global, frame: Frame<'_>, reported: &mut Reported) -> Result<(), TakeReportError>
+fn take_report(
+    alloc: Global,
+    frame: Frame<'_>,
+    reported: &mut Reported,
+) -> Result<(), TakeReportError>
     ensures { TakesReport reported.old (frame_of frame.entry) reported.new result }
 {
     if frame.kind != PARAMETER_STATUS {
@@ -401,7 +405,7 @@ pub(crate) fn take_reports(
     reply: &[u8],
     reported: &mut Reported,
 ) -> Result<(), TakeReportError>
-    ensures taken { TakesReports reported.old (frames Server LONGEST_REPLY reply.now).frames reported.new result }
+    ensures taken { TakesReports reported.old (frames Server MAX_REPLY reply.now).frames reported.new result }
     ensures bytes { AreBytes reply.now }
 {
     are_bytes(reply);
@@ -426,7 +430,7 @@ fn keyed_by(key: Option<KeyView>, frame: Frame<'_>) -> Result<Option<KeyView>, V
 
 /// The server's key, as the whole frames of these bytes tell it: that of the last BackendKeyData among them.
 pub(crate) fn key_told(reply: &[u8]) -> Result<Option<KeyView>, ViewError>
-    ensures key { result ≡ keyed_all None (frames Server LONGEST_REPLY reply.now).frames }
+    ensures key { result ≡ keyed_all None (frames Server MAX_REPLY reply.now).frames }
     ensures bytes { AreBytes reply.now }
 {
     are_bytes(reply);

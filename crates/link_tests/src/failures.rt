@@ -21,7 +21,7 @@ use std::test::Fail;
 const CUT: usize = 16;
 
 /// A run has fewer calls than this.
-const MOST_CALLS: u64 = 2_000;
+const MAX_CALLS: u64 = 2_000;
 
 /// A setting, a temporary table and a prepared statement.
 const MARKS: &[u8] =
@@ -101,7 +101,7 @@ fn leased<C: ClientEnd, E: ServerEnd>(
     let Ok(mut relay) = Relay::begin(alloc, client, link, word(pid), 1_000) else {
         return Err("no lease")?;
     };
-    for _ in 0..MOST_CALLS {
+    for _ in 0..MAX_CALLS {
         let next = relay.pump(both);
         if next != Next::Again {
             let (client, link) = relay.close();
@@ -167,7 +167,7 @@ fn whole(alloc: Global, talk: Talk) -> Result<Vec<u8>, Fail> {
 fn server_faults(alloc: Global, talk: Talk) -> Result<[u64; 3], Fail> {
     let whole = whole(alloc, talk)?;
     let mut counts = [0u64, 0, 0];
-    for call in 1..MOST_CALLS {
+    for call in 1..MAX_CALLS {
         match run(alloc, failing_at(alloc, CUT, call)?, talk, whole.as_slice())? {
             Outcome::NotStarted => counts[0] = counts[0].saturating_add(1),
             Outcome::LostInLease => counts[1] = counts[1].saturating_add(1),
@@ -215,7 +215,7 @@ fn next_finds_nothing(alloc: Global, talk: Talk, call: u64) -> Result<(bool, boo
 fn a_client_fails_at_each_of_its_calls(rt: HostRuntime) -> Result<(), Fail> {
     let mut faults: u64 = 0;
     for talk in TALKS {
-        for call in 1..MOST_CALLS {
+        for call in 1..MAX_CALLS {
             let (is_clean, fails) = next_finds_nothing(rt.alloc(), talk, call)?;
             assert!(rt; is_clean);
             if !fails {
@@ -224,6 +224,6 @@ fn a_client_fails_at_each_of_its_calls(rt: HostRuntime) -> Result<(), Fail> {
             faults = faults.saturating_add(1);
         }
     }
-    assert!(rt; faults > 40 && faults < MOST_CALLS);
+    assert!(rt; faults > 40 && faults < MAX_CALLS);
     Ok(())
 }

@@ -1,7 +1,7 @@
 //! One client, its server, and what it is answered first.
 ghost use Rattle.std.specs.Prelude.{◌≡◌, ◌<◌, ◌≤◌, IfOk};
 ghost use Rattle.std.specs.Arc.{arc_value};
-ghost use Rattle.frame_view.specs.declared.frames.TheConstants.{LONGEST_FRAME};
+ghost use Rattle.frame_view.specs.declared.frames.TheConstants.{MAX_FRAME};
 ghost use Rattle.link_start.specs.Starts.{IsLinkKey};
 
 use bytes::BytesMut;
@@ -67,7 +67,7 @@ pub(crate) fn served(
 ) -> Result<BytesMut, AllocError>
     requires cut { 0 < cut }
     requires low { 4 ≤ limit }
-    requires high { limit ≤ LONGEST_FRAME }
+    requires high { limit ≤ MAX_FRAME }
 {
     let catalogue = catalogue(alloc)?;
     catalogue.is_lawful();

@@ -1,10 +1,10 @@
 //! Messages at the greatest length that there is, and above the one that a relay allows.
 ghost use Rattle.std.specs.Prelude.{◌≤◌};
-ghost use Rattle.frame_view.specs.declared.frames.TheConstants.{LONGEST_FRAME};
+ghost use Rattle.frame_view.specs.declared.frames.TheConstants.{MAX_FRAME};
 
 use crate::making::server;
 use crate::resets::link;
-use frame_view::LONGEST_FRAME;
+use frame_view::MAX_FRAME;
 use memory_ends::memory_client::MemoryClient;
 use memory_ends::memory_server::ServerAuth;
 use message_view::{KeyWord, Refusal};
@@ -17,7 +17,7 @@ use std::test::Fail;
 /// What a client comes to that sends this under this limit, and whether no byte of it went to the link.
 fn told(alloc: Global, limit: u32, sent: &[u8]) -> Result<(Next, bool), Fail>
     requires low { 4 ≤ limit }
-    requires high { limit ≤ LONGEST_FRAME }
+    requires high { limit ≤ MAX_FRAME }
 {
     let word = KeyWord {
         pid: 1,
@@ -46,7 +46,7 @@ fn told(alloc: Global, limit: u32, sent: &[u8]) -> Result<(Next, bool), Fail>
 /// The head of a Query of 2,147,483,647 bytes goes on, and more is waited for.
 #[test]
 fn the_longest_message_is_waited_for(rt: HostRuntime) -> Result<(), Fail> {
-    let longest = told(rt.alloc(), LONGEST_FRAME, b"Q\x7f\xff\xff\xff")?;
+    let longest = told(rt.alloc(), MAX_FRAME, b"Q\x7f\xff\xff\xff")?;
     assert!(rt; longest == (Next::Wait, false));
     Ok(())
 }

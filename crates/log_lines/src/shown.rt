@@ -7,7 +7,7 @@ use itoa::Buffer;
 use std::alloc::AllocError;
 
 /// How many bytes of a text are shown.
-const LONGEST_TEXT: usize = 200;
+const MAX_TEXT: usize = 200;
 
 /// The last hexadecimal digit of a number.
 fn hex_digit(n: u8) -> u8
@@ -57,13 +57,13 @@ pub fn start_of(text: &[u8], count: usize) -> &[u8]
 fn ending_of(length: usize) -> &'static [u8]
     ensures { result.now ≡ (if nat_lt 200 length then codes "..." else []) }
 {
-    if LONGEST_TEXT < length { b"..." } else { b"" }
+    if MAX_TEXT < length { b"..." } else { b"" }
 }
 
 fn put_shown(line: &mut Vec<u8>, mark: u8, text: &[u8]) -> Result<(), AllocError>
     ensures { OnOk result (line.new.items ≡ line.old.items ++ spec.shown mark text.now) }
 {
-    put_bytes(line, mark, start_of(text, LONGEST_TEXT))?;
+    put_bytes(line, mark, start_of(text, MAX_TEXT))?;
     line.extend_from_slice(ending_of(text.len()))
 }
 

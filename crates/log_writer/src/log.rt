@@ -1,6 +1,6 @@
 //! The thread that writes the log.
 
-use crate::queue::{LONGEST_LINE, Next, Queue};
+use crate::queue::{MAX_LINE, Next, Queue};
 use log_lines::events::{Event, put_event};
 use log_lines::lines::put_note;
 use log_lines::notes::{Client, Note};
@@ -41,7 +41,7 @@ impl Log {
         })
     }
 
-    /// A line more, without its end. Where [`crate::queue::MOST_LINES`] wait it is dropped and counted. The lock is held for as
+    /// A line more, without its end. Where [`crate::queue::MAX_LINES`] wait it is dropped and counted. The lock is held for as
     /// long as a line takes to move.
     pub fn push<R: Wait>(&self, rt: &R, line: Vec<u8>) {
         self.state.lock(rt).queue.push(line);
@@ -139,7 +139,7 @@ pub fn begin<R: Threads + Wait + Copy + Send + 'static, W: Write + Drop + Send +
     alloc: Global,
     out: W,
 ) -> Result<(Arc<Log>, LogThread), AllocError> {
-    let line = Vec::with_capacity(alloc, LONGEST_LINE + 1)?;
+    let line = Vec::with_capacity(alloc, MAX_LINE + 1)?;
     let log = Arc::new(alloc, Log::new(alloc)?)?;
     let (told, shared) = (Arc::try_clone(&log)?, Arc::try_clone(&log)?);
     let thread = thread::spawn(&rt, move || {

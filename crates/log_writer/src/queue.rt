@@ -8,10 +8,10 @@ use std::alloc::{AllocError, Global};
 use std::marker::Model;
 
 /// As many lines may wait.
-pub const MOST_LINES: usize = 1024;
+pub const MAX_LINES: usize = 1024;
 
 /// As many bytes of a line are written.
-pub const LONGEST_LINE: usize = 1000;
+pub const MAX_LINE: usize = 1000;
 
 /// A line that waits.
 struct Waiting {
@@ -57,7 +57,7 @@ pub(crate) fn one_more(n: u64) -> u64
     if n < u64::MAX { n + 1 } else { n }
 }
 
-/// Lines that wait to be written, first in, first out. Of more than [`MOST_LINES`] the last are dropped and counted.
+/// Lines that wait to be written, first in, first out. Of more than [`MAX_LINES`] the last are dropped and counted.
 pub struct Queue {
     lines: HeapCircularBuffer<Waiting>,
     dropped: u64,
@@ -89,7 +89,7 @@ impl Queue {
         ensures { IfOk result (λ q. q ≡ record { lines = []; dropped = 0 }) }
     {
         Ok(Queue {
-            lines: HeapCircularBuffer::with_capacity(alloc, MOST_LINES)?,
+            lines: HeapCircularBuffer::with_capacity(alloc, MAX_LINES)?,
             dropped: 0,
         })
     }
@@ -97,10 +97,10 @@ impl Queue {
     fn has_room(&self) -> bool
         ensures { result ≡ spec.has_room self.now }
     {
-        self.lines.len() < MOST_LINES
+        self.lines.len() < MAX_LINES
     }
 
-    /// A line more, which is cut after [`LONGEST_LINE`] bytes. Where there is no room it is dropped and counted. It takes no
+    /// A line more, which is cut after [`MAX_LINE`] bytes. Where there is no room it is dropped and counted. It takes no
     /// memory.
     pub fn push(&mut self, line: Vec<u8>)
         ensures { self.new ≡ pushed line.items self.old }
@@ -110,7 +110,7 @@ impl Queue {
             return;
         }
         let mut bytes = line;
-        bytes.truncate(LONGEST_LINE);
+        bytes.truncate(MAX_LINE);
         self.put(Waiting { bytes });
     }
 

@@ -13,9 +13,7 @@ ghost use Rattle.login_core.specs.Logins.{Answers, ArrivesOnce, Begun, Decides, 
 use crate::laws::packets_grow;
 use crate::steps::{Authenticated, LoginRefusal, LoginStep, Question};
 use frame_view::client::{PASSWORD_MESSAGE, TERMINATE};
-use frame_view::{
-    FirstStep, FrameError, LONGEST_FIRST_PACKET, Side, Step, first_packet, next_frame,
-};
+use frame_view::{FirstStep, FrameError, MAX_FIRST_PACKET, Side, Step, first_packet, next_frame};
 use ini_config::{AuthType, Settings};
 use message_view::{KeyWord, PasswordView, Refusal, StartupView};
 use param_track::{StartKeyError, start_key, unsupported_name};
@@ -27,7 +25,7 @@ use std::sync::Arc;
 use user_file::{Secret, Users};
 
 /// The greatest length of a message in the login.
-pub(crate) const LONGEST_MESSAGE: u32 = 10_000;
+pub(crate) const MAX_MESSAGE: u32 = 10_000;
 
 /// The bytes of a first packet that tell its length and what it asks for.
 pub(crate) const FIRST_HEAD: usize = 8;
@@ -142,7 +140,8 @@ fn refusal_of_start(fault: StartKeyError) -> Refusal
 {
     match fault {
         StartKeyError::NoUser => Refusal::MalformedClientMessage,
-        StartKeyError::UnsupportedParameter | StartKeyError::Replication => Refusal::UnsupportedParameter,
+        StartKeyError::UnsupportedParameter | StartKeyError::Replication =>
+            Refusal::UnsupportedParameter,
         StartKeyError::Memory => Refusal::OutOfMemory,
     }
 }
@@ -574,7 +573,7 @@ impl Rules {
         ensures reveals { Reveals (rows_under self.now) result.0 (revealed_of result.1) }
     {
         packets_grow();
-        let frame = match next_frame(held, 0, LONGEST_MESSAGE, Side::Client) {
+        let frame = match next_frame(held, 0, MAX_MESSAGE, Side::Client) {
             Step::Whole(frame) => frame,
             Step::Need(count) => return (LoginStep::More, Place::Asked(asking, key), count),
             Step::Bad(_) => return (LoginStep::Refused(MALFORMED), Place::Over(None), 0),

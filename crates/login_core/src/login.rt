@@ -5,7 +5,7 @@ ghost use Rattle.login_core.specs.Dialogue.{AtFirst};
 ghost use Rattle.login_core.specs.Logins.{ArrivesOnce, StepMeans, AwaitsPacket, Over, Reveals, arrives_at_console, awaiting_of, login_view, missing, rows_of};
 ghost use Rattle.login_core.specs.declared.steps.LoginStep.TheVariants.{Left};
 
-use crate::dialogue::{FIRST_HEAD, LONGEST_MESSAGE, Place, Rules, note_unsupported};
+use crate::dialogue::{FIRST_HEAD, MAX_MESSAGE, Place, Rules, note_unsupported};
 use crate::laws::packets_grow;
 use crate::steps::LoginStep;
 use ini_config::Settings;
@@ -18,7 +18,7 @@ use std::sync::Arc;
 use user_file::Users;
 
 /// The bytes of the longest packet: a type byte and the greatest length.
-const LONGEST_PACKET: usize = LONGEST_MESSAGE as usize + 1;
+const MAX_PACKET: usize = MAX_MESSAGE as usize + 1;
 
 /// A client's login. It takes the client's bytes in any cuts, never past the packet that it waits for.
 ///
@@ -87,7 +87,7 @@ impl Login {
                 tls: false,
                 gss: false,
             },
-            held: Vec::with_capacity(alloc, LONGEST_PACKET)?,
+            held: Vec::with_capacity(alloc, MAX_PACKET)?,
             lacking: FIRST_HEAD,
             unsupported: None,
         })

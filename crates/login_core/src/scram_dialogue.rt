@@ -6,7 +6,7 @@ ghost use Rattle.message_view.specs.Messages.{authentication};
 ghost use Rattle.scram.specs.Keys.{auth_message, is_client_key};
 ghost use Rattle.scram.specs.Messages.{first_view};
 ghost use Rattle.scram.specs.Short.{text_of};
-ghost use Rattle.scram.specs.declared.client_messages.TheConstants.{LONGEST_JOINT_NONCE, LONGEST_NONCE};
+ghost use Rattle.scram.specs.declared.client_messages.TheConstants.{MAX_JOINT_NONCE, MAX_NONCE};
 ghost use Rattle.user_file.specs.Salts.{judged_by};
 ghost use Rattle.login_core.specs.Dialogue as login;
 ghost use Rattle.login_core.specs.Dialogue.{ForFirst, ForLast, proof_by};
@@ -99,9 +99,9 @@ impl Rules {
     }
 
     fn joint_nonce(&self, first: &First<'_>) -> Message
-        requires { length first.now.nonce.now ≤ LONGEST_NONCE }
+        requires { length first.now.nonce.now ≤ MAX_NONCE }
         ensures value { text_of result ≡ login.joint_nonce self.now.word (first_view first.now) }
-        ensures short { length (text_of result) ≤ LONGEST_JOINT_NONCE }
+        ensures short { length (text_of result) ≤ MAX_JOINT_NONCE }
     {
         let mut joint = Message::new();
         joint.push(first.nonce);
@@ -110,7 +110,7 @@ impl Rules {
     }
 
     fn challenge(&self, key: &StartKey, first: &First<'_>) -> Message
-        requires { length first.now.nonce.now ≤ LONGEST_NONCE }
+        requires { length first.now.nonce.now ≤ MAX_NONCE }
         ensures value { text_of result ≡ login.challenge_to (rows_under self.now key.now.row key.now.user) self.now.word key.now (first_view first.now) }
         ensures short { length (text_of result) ≤ 328 }
     {
@@ -196,7 +196,10 @@ impl Rules {
                     Err(_) => refused(Refusal::OutOfMemory),
                 }
             }
-            None => (LoginStep::Failed(LoginRefusal::WrongPassword), Place::Over(None)),
+            None => (
+                LoginStep::Failed(LoginRefusal::WrongPassword),
+                Place::Over(None),
+            ),
         }
     }
 }

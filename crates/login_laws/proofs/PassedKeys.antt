@@ -4,7 +4,7 @@ use Rattle.std.specs.Prelude.{if◌then◌else◌, ◌==◌, nat_lt, bytes_eq, c
 use Rattle.frame_view.specs.Frames.{FirstOf, Start, Cancels, AsksTls, AsksGss, FirstFront, AFirst, LacksFirst, FaultyFirst, Front, AFrame, Lacks, Faulty, first_front, of_length, at_code, of_code, number, front}
 use Rattle.frame_view.specs.declared.Side.TheVariants.{Client}
 use Rattle.frame_view.specs.declared.client.TheConstants.{PASSWORD_MESSAGE, TERMINATE}
-use Rattle.frame_view.specs.declared.first.TheConstants.{PROTOCOL_3_0, CANCEL_REQUEST, SSL_REQUEST, GSSENC_REQUEST, LONGEST_FIRST_PACKET}
+use Rattle.frame_view.specs.declared.first.TheConstants.{PROTOCOL_3_0, CANCEL_REQUEST, SSL_REQUEST, GSSENC_REQUEST, MAX_FIRST_PACKET}
 use Rattle.message_view.specs.declared.KeyWord.{KeyWord}
 use Rattle.message_view.specs.declared.ViewError.{ViewError}
 use Rattle.message_view.specs.declared.refusal.Refusal.{Refusal}
@@ -141,7 +141,7 @@ at_code-short len (a ∷ b ∷ c ∷ []) low = tt
 length-short : (len : ℕ) (rest : List ℕ) → IsShortFirst (of_length len rest)
 length-short len rest =
     choose IsShortFirst (nat_lt len 8) _ _ (λ e. tt)
-    (λ e. choose IsShortFirst (nat_lt LONGEST_FIRST_PACKET len) _ _ (λ f. tt) (λ f. at_code-short len rest (ltb-false LONGEST_FIRST_PACKET len f)))
+    (λ e. choose IsShortFirst (nat_lt MAX_FIRST_PACKET len) _ _ (λ f. tt) (λ f. at_code-short len rest (ltb-false MAX_FIRST_PACKET len f)))
 
 first-short : (bytes : List ℕ) → IsShortFirst (first_front bytes)
 first-short (a ∷ b ∷ c ∷ d ∷ rest) = length-short (number a b c d) rest

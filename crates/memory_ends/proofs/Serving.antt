@@ -9,7 +9,7 @@ use Rattle.frame_view.specs.declared.Step.{Step}
 use Rattle.frame_view.specs.declared.Step.TheVariants.{Whole}
 use Rattle.frame_view.specs.declared.FirstStep.TheVariants.{Startup}
 use Rattle.frame_view.specs.declared.Side.TheVariants.{Client}
-use Rattle.frame_view.specs.declared.frames.TheConstants.{LONGEST_FRAME}
+use Rattle.frame_view.specs.declared.frames.TheConstants.{MAX_FRAME}
 use Rattle.frame_view.specs.Answers.{Tells, TellsFirst}
 use Rattle.frame_view.specs.Frames.{AreBytes, FrameOf, Front, AFrame, Lacks, Faulty, Stops, Start, Cut, first_front, first_spelling, front, spelling}
 use Rattle.frame_view.proofs.FirstPackets.{first-spelled}
@@ -84,9 +84,9 @@ record Cuts (frame : Frame) (bytes : List ℕ) : Type 0 where
 abbrev a_frame : ℕ → List ℕ → FrameOf
 a_frame k b = record { kind = k; body = b }
 
-cut_out-at : (frame : Frame) (bytes : List ℕ) (f : Front) → AreBytes bytes → front Client LONGEST_FRAME bytes ≡ f → Tells (Whole frame) bytes f → Cuts frame bytes
+cut_out-at : (frame : Frame) (bytes : List ℕ) (f : Front) → AreBytes bytes → front Client MAX_FRAME bytes ≡ f → Tells (Whole frame) bytes f → Cuts frame bytes
 cut_out-at frame bytes (AFrame k body rest) fit e t =
-    let s = front-spelled Client LONGEST_FRAME bytes k body rest fit e in
+    let s = front-spelled Client MAX_FRAME bytes k body rest fit e in
     let same : a_frame k body ≡ frame_of frame = ap₂ a_frame (sym t.kind_is) (sym t.body_is) in
     let back : drop (length frame.whole.now) bytes ≡ rest = ap (drop (length frame.whole.now)) (sym t.whole_is) ∙ drop-append_seam frame.whole.now rest in
     let head : List ℕ = k ∷ Rattle.std.specs.Int.to_be_bytes Rattle.std.specs.Int.w32 (4 + length body) in
@@ -98,10 +98,10 @@ cut_out-at frame bytes (AFrame k body rest) fit e t =
 cut_out-at frame bytes (Lacks n) fit e t = absurd t
 cut_out-at frame bytes (Faulty x) fit e t = absurd t
 
-cut_out : (frame : Frame) (bytes items : List ℕ) → AreBytes bytes → bytes ≡ items → Tells (Whole frame) bytes (front Client LONGEST_FRAME bytes) → Cuts frame items
-cut_out frame bytes items fit same t = subst (Cuts frame) same (cut_out-at frame bytes (front Client LONGEST_FRAME bytes) fit refl t)
+cut_out : (frame : Frame) (bytes items : List ℕ) → AreBytes bytes → bytes ≡ items → Tells (Whole frame) bytes (front Client MAX_FRAME bytes) → Cuts frame items
+cut_out frame bytes items fit same t = subst (Cuts frame) same (cut_out-at frame bytes (front Client MAX_FRAME bytes) fit refl t)
 
-pub takes_answer : (v : Server) (start answer : List ℕ) (frame : Frame) (bytes items rest out replied : List ℕ) (before after : List Bool) (next : Stage) → AreBytes bytes → bytes ≡ items → Tells (Whole frame) bytes (front Client LONGEST_FRAME bytes)
+pub takes_answer : (v : Server) (start answer : List ℕ) (frame : Frame) (bytes items rest out replied : List ℕ) (before after : List Bool) (next : Stage) → AreBytes bytes → bytes ≡ items → Tells (Whole frame) bytes (front Client MAX_FRAME bytes)
     → (next ≡ (hears v start answer no_auth (frame_of frame)).next) × (replied ≡ out ++ flat_map spelling (hears v start answer no_auth (frame_of frame)).replies) → after ≡ before ++ false ∷ [] → rest ≡ drop (length frame.whole.now) items → Takes v (Asked start answer no_auth) next items rest out replied before after
 takes_answer v start answer frame bytes items rest out replied before after next fit same t turn marked left =
     let k = cut_out frame bytes items fit same t in
@@ -115,20 +115,20 @@ takes_answer v start answer frame bytes items rest out replied before after next
     }
 
 -- a frame of the session
-no_frame : (v : Server) (s : State) (bytes : List ℕ) → Stops (front Client LONGEST_FRAME bytes) → replies_in v (Open s) [] bytes ≡ []
+no_frame : (v : Server) (s : State) (bytes : List ℕ) → Stops (front Client MAX_FRAME bytes) → replies_in v (Open s) [] bytes ≡ []
 unfolding run_frames
-no_frame v s bytes h = ap (λ (c : Cut). flat_map spelling (run_frames v.catalogue s [] c.frames).replies) (frames-stopped Client LONGEST_FRAME bytes h)
+no_frame v s bytes h = ap (λ (c : Cut). flat_map spelling (run_frames v.catalogue s [] c.frames).replies) (frames-stopped Client MAX_FRAME bytes h)
 
-pub waits_frame : (v : Server) (s : State) (x : Step) (bytes items out : List ℕ) (marks : List Bool) → bytes ≡ items → ((frame : Frame) → x ≡ Whole frame → ⊥) → Tells x bytes (front Client LONGEST_FRAME bytes) → Waits v (Open s) items items out out marks marks
+pub waits_frame : (v : Server) (s : State) (x : Step) (bytes items out : List ℕ) (marks : List Bool) → bytes ≡ items → ((frame : Frame) → x ≡ Whole frame → ⊥) → Tells x bytes (front Client MAX_FRAME bytes) → Waits v (Open s) items items out out marks marks
 waits_frame v s x bytes items out marks same n t = record {
   left = refl;
   silent = refl;
   marks = refl;
-  answered = ap (replies_in v (Open s) []) (sym same) ∙ no_frame v s bytes (not_whole x bytes (front Client LONGEST_FRAME bytes) n t);
+  answered = ap (replies_in v (Open s) []) (sym same) ∙ no_frame v s bytes (not_whole x bytes (front Client MAX_FRAME bytes) n t);
 }
 
 pub takes_frame : (v : Server) (cat : CatalogueOf) (s next : State) (m : Bool) (frame : Frame) (bytes items rest out replied : List ℕ) (before after : List Bool) → cat ≡ v.catalogue
-    → AreBytes bytes → bytes ≡ items → Tells (Whole frame) bytes (front Client LONGEST_FRAME bytes) → (m ≡ true → can_strike v s (frame_of frame) ≡ true) → after ≡ before ++ m ∷ []
+    → AreBytes bytes → bytes ≡ items → Tells (Whole frame) bytes (front Client MAX_FRAME bytes) → (m ≡ true → can_strike v s (frame_of frame) ≡ true) → after ≡ before ++ m ∷ []
     → Gave next out replied (step cat s m (frame_of frame)) → rest ≡ drop (length frame.whole.now) items → Takes v (Open s) (Open next) items rest out replied before after
 takes_frame v cat s next m frame bytes items rest out replied before after d fit same t may marked gave left =
     let k = cut_out frame bytes items fit same t in

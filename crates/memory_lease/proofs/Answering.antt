@@ -5,7 +5,7 @@ use Rattle.std.proofs.lemmas.Bool.{true≢false}
 use Rattle.std.specs.List.{flat_map, AllByRecursion}
 use Rattle.std.proofs.lemmas.Grind.{flat_map-append}
 use Rattle.frame_view.specs.declared.Side.TheVariants.{Server}
-use Rattle.frame_view.specs.declared.frames.TheConstants.{LONGEST_FRAME}
+use Rattle.frame_view.specs.declared.frames.TheConstants.{MAX_FRAME}
 use Rattle.frame_view.specs.Frames.{AreBytes, FrameOf, IsFrame, spelling}
 use Rattle.message_view.specs.declared.KeyWord.{KeyWord}
 use Rattle.message_view.specs.declared.refusal.Refusal.{Refusal}
@@ -149,7 +149,7 @@ refused_at ws gs rs out last r pieces e p l = record {
   out_is = l ∙ ap (λ (o : List ℕ). o ++ refusal r) (e ∙ (sym (flat_map-append spelling ws gs) ∙ sym (pieces_join (ws ++ gs))));
 }
 
-all_back : (fs gs : List FrameOf) → AllByRecursion (IsFrame Server LONGEST_FRAME) (fs ++ gs) → AllByRecursion (IsFrame Server LONGEST_FRAME) gs
+all_back : (fs gs : List FrameOf) → AllByRecursion (IsFrame Server MAX_FRAME) (fs ++ gs) → AllByRecursion (IsFrame Server MAX_FRAME) gs
 all_back [] gs a = a
 all_back (f ∷ fs) gs a = all_back fs gs a.1
 
@@ -185,9 +185,9 @@ refused dies began key word bytes out last v at r x b why died l =
     let all : flat_map spelling ws ++ flat_map spelling rs ≡ flat_map spelling ws ++ (flat_map spelling b.arrived ++ g.more) =
     sym (service_fresh cat key word bytes s opened) ∙ (sym g.both ∙ (ap (λ (o : List ℕ). o ++ g.more) out_is ∙ append_assoc (flat_map spelling ws) (flat_map spelling b.arrived) g.more)) in
     let reached : Reaches cat key s = subst (λ (k : StartKeyOf). Reaches cat k s) x.key_is (subst (λ (t : CatalogueOf). Reaches t v.key s) same (fresh_is_reached at.stands.server.catalogue v.key s c.stands.lawful c.stands.lawful_key c.stands.is_fresh)) in
-    let whole : AllByRecursion (IsFrame Server LONGEST_FRAME) rs = run_replies_are_frames cat key s [] (client_frames bytes) reached (client_frames_are_sent bytes x.bytes_are) in
-    let o : SplitsOff rs b.arrived [] g.more = split_whole Server LONGEST_FRAME rs b.arrived g.more (omega arith) whole b.came (same_back (flat_map spelling ws) (flat_map spelling rs) (flat_map spelling b.arrived ++ g.more) all) in
-    let later : AllByRecursion (IsFrame Server LONGEST_FRAME) o.more = all_back b.arrived o.more (subst (λ (fs : List FrameOf). AllByRecursion (IsFrame Server LONGEST_FRAME) fs) o.all whole) in
+    let whole : AllByRecursion (IsFrame Server MAX_FRAME) rs = run_replies_are_frames cat key s [] (client_frames bytes) reached (client_frames_are_sent bytes x.bytes_are) in
+    let o : SplitsOff rs b.arrived [] g.more = split_whole Server MAX_FRAME rs b.arrived g.more (omega arith) whole b.came (same_back (flat_map spelling ws) (flat_map spelling rs) (flat_map spelling b.arrived ++ g.more) all) in
+    let later : AllByRecursion (IsFrame Server MAX_FRAME) o.more = all_back b.arrived o.more (subst (λ (fs : List FrameOf). AllByRecursion (IsFrame Server MAX_FRAME) fs) o.all whole) in
     inr (record {
       at = refused_at ws b.arrived o.more out last r (own_pieces cat key word bytes) out_is (served_fresh cat key word bytes s opened ∙ ap (λ (fs : List FrameOf). map spelling (ws ++ fs)) o.all) l;
       because = caused_by dies at v bytes held.more (map spelling (ws ++ b.arrived)) o.more r x.lease x.tells x.none_taken x.taken later o.bytes why died;

@@ -6,7 +6,7 @@ use Rattle.std.specs.Int.{w32, to_be_bytes}
 use Rattle.std.proofs.lemmas.Bool.{false≢true, eqb-true}
 use Rattle.frame_view.specs.declared.Side.TheVariants.{Client}
 use Rattle.frame_view.specs.declared.client.TheConstants.{TERMINATE}
-use Rattle.frame_view.specs.declared.frames.TheConstants.{LONGEST_FRAME}
+use Rattle.frame_view.specs.declared.frames.TheConstants.{MAX_FRAME}
 use Rattle.frame_view.specs.Frames.{AreBytes, Cut, FrameOf, Front, AFrame, Lacks, Faulty, IsFrame, Stops, cut_after, front, spelling}
 use Rattle.frame_view.proofs.Cuts.{front-spelled}
 use Rattle.frame_view.proofs.Splitting.{frames-spellings, frames-stopped}
@@ -29,8 +29,8 @@ none_run : (cat : CatalogueOf) (s : State) (marks : List Bool) → (run_frames c
 unfolding run_frames
 none_run cat s marks = refl
 
-pub stopped_adds : (bytes : List ℕ) → Stops (front Client LONGEST_FRAME bytes) → AddsNothing bytes
-stopped_adds bytes h cat s marks = ap (λ (c : Cut). (run_frames cat s marks c.frames).replies) (frames-stopped Client LONGEST_FRAME bytes h) ∙ none_run cat s marks
+pub stopped_adds : (bytes : List ℕ) → Stops (front Client MAX_FRAME bytes) → AddsNothing bytes
+stopped_adds bytes h cat s marks = ap (λ (c : Cut). (run_frames cat s marks c.frames).replies) (frames-stopped Client MAX_FRAME bytes h) ∙ none_run cat s marks
 
 unstuck : (f : Front) (k a b c d : ℕ) (rest : List ℕ) → is_stuck Client f (k ∷ a ∷ b ∷ c ∷ d ∷ rest) ≡ true → ⊥
 unstuck (Lacks n) k a b c d rest e = false≢true e
@@ -38,7 +38,7 @@ unstuck (AFrame kind body more) k a b c d rest e = false≢true e
 unstuck (Faulty fault) k a b c d rest e = false≢true e
 
 -- less than a head
-pub short_stops : (limit : ℕ) (part : List ℕ) → is_stuck Client (front Client limit part) part ≡ true → Stops (front Client LONGEST_FRAME part)
+pub short_stops : (limit : ℕ) (part : List ℕ) → is_stuck Client (front Client limit part) part ≡ true → Stops (front Client MAX_FRAME part)
 short_stops limit [] e = tt
 short_stops limit (k ∷ []) e = tt
 short_stops limit (k ∷ a ∷ []) e = tt
@@ -78,17 +78,17 @@ ends_run cat s marks f fs t =
     let e : Ends a = ends_by cat s (first_mark marks) f s.ended s.skipping refl refl t in
     ap (λ (rs : List FrameOf). rs ++ (run_frames cat a.next (later_marks marks) fs).replies) e.0 ∙ after_end cat a.next (later_marks marks) fs e.1
 
-terminate_by : (bytes more : List ℕ) (f : Front) → AreBytes bytes → bytes ≡ TERMINATE ∷ more → front Client LONGEST_FRAME bytes ≡ f → AddsNothing bytes
+terminate_by : (bytes more : List ℕ) (f : Front) → AreBytes bytes → bytes ≡ TERMINATE ∷ more → front Client MAX_FRAME bytes ≡ f → AddsNothing bytes
 terminate_by bytes more (AFrame kind body rest) fit e h cat s marks =
-    let is : bytes ≡ kind ∷ (to_be_bytes w32 (4 + length body) ++ body) ++ rest = (front-spelled Client LONGEST_FRAME bytes kind body rest fit h).0 in
+    let is : bytes ≡ kind ∷ (to_be_bytes w32 (4 + length body) ++ body) ++ rest = (front-spelled Client MAX_FRAME bytes kind body rest fit h).0 in
     let same : kind ≡ TERMINATE = cc in
-    ap (λ (c : Cut). (run_frames cat s marks c.frames).replies) (frames-front Client LONGEST_FRAME bytes kind body rest h)
+    ap (λ (c : Cut). (run_frames cat s marks c.frames).replies) (frames-front Client MAX_FRAME bytes kind body rest h)
     ∙ ends_run cat s marks (record { kind = kind; body = body }) (client_frames (drop (5 + length body) bytes)) same
 terminate_by bytes more (Lacks n) fit e h cat s marks = stopped_adds bytes (subst Stops (sym h) tt) cat s marks
 terminate_by bytes more (Faulty fault) fit e h cat s marks = stopped_adds bytes (subst Stops (sym h) tt) cat s marks
 
 pub terminate_adds : (bytes more : List ℕ) → AreBytes bytes → bytes ≡ TERMINATE ∷ more → AddsNothing bytes
-terminate_adds bytes more fit e = terminate_by bytes more (front Client LONGEST_FRAME bytes) fit e refl
+terminate_adds bytes more fit e = terminate_by bytes more (front Client MAX_FRAME bytes) fit e refl
 
 -- what a list begins with whose beginning begins so
 record Starts (bytes : List ℕ) (b : ℕ) : Type 0 where
@@ -128,14 +128,14 @@ served_same cat (Ok s) pid secret marks fs gs h =
     ap (λ (a : Answer). a.replies) (runs_go_on cat s marks fs gs) ∙ (ap (λ (rs : List FrameOf). (run_frames cat s marks fs).replies ++ rs) (h t (marks_after fs marks)) ∙ append-nil (run_frames cat s marks fs).replies) in
     ap (λ (rs : List FrameOf). flat_map spelling (welcome s pid secret ++ rs)) none
 
-frames_with : (fs : List FrameOf) (bytes : List ℕ) → AllByRecursion (IsFrame Client LONGEST_FRAME) fs → client_frames (flat_map spelling fs ++ bytes) ≡ fs ++ client_frames bytes
-frames_with fs bytes each = ap (λ (c : Cut). c.frames) (frames-spellings Client LONGEST_FRAME fs bytes (omega arith) each)
+frames_with : (fs : List FrameOf) (bytes : List ℕ) → AllByRecursion (IsFrame Client MAX_FRAME) fs → client_frames (flat_map spelling fs ++ bytes) ≡ fs ++ client_frames bytes
+frames_with fs bytes each = ap (λ (c : Cut). c.frames) (frames-spellings Client MAX_FRAME fs bytes (omega arith) each)
 
-frames_of : (fs : List FrameOf) → AllByRecursion (IsFrame Client LONGEST_FRAME) fs → client_frames (flat_map spelling fs) ≡ fs
+frames_of : (fs : List FrameOf) → AllByRecursion (IsFrame Client MAX_FRAME) fs → client_frames (flat_map spelling fs) ≡ fs
 unfolding cut_after
 frames_of fs each = ap client_frames (sym (append-nil (flat_map spelling fs))) ∙ (frames_with fs [] each ∙ append-nil fs)
 
-pub service_same : (cat : CatalogueOf) (key : StartKeyOf) (pid secret : ℕ) (marks : List Bool) (fs : List FrameOf) (bytes : List ℕ) → AllByRecursion (IsFrame Client LONGEST_FRAME) fs → AddsNothing bytes
+pub service_same : (cat : CatalogueOf) (key : StartKeyOf) (pid secret : ℕ) (marks : List Bool) (fs : List FrameOf) (bytes : List ℕ) → AllByRecursion (IsFrame Client MAX_FRAME) fs → AddsNothing bytes
     → service cat key pid secret marks (flat_map spelling fs ++ bytes) ≡ service cat key pid secret marks (flat_map spelling fs)
 unfolding service
 service_same cat key pid secret marks fs bytes each h =

@@ -5,7 +5,7 @@ use Rattle.std.specs.List.{flat_map, AllByRecursion}
 use Rattle.std.proofs.lemmas.Bool.{false≢true, true≢false}
 use Rattle.frame_view.specs.declared.Side.{Side}
 use Rattle.frame_view.specs.declared.Side.TheVariants.{Client}
-use Rattle.frame_view.specs.declared.frames.TheConstants.{LONGEST_FRAME}
+use Rattle.frame_view.specs.declared.frames.TheConstants.{MAX_FRAME}
 use Rattle.frame_view.specs.Frames.{AreBytes, FrameOf, IsFrame, front, spelling}
 use Rattle.message_view.specs.Refusals.{Begins}
 use Rattle.session_values.specs.State.{CatalogueOf, StartKeyOf}
@@ -95,11 +95,11 @@ left_by (Faulty fault) limit went tail part bytes rest n d s fit b t x = absurd 
 
 -- ---- the whole answer
 
-longer : (limit : ℕ) (fs : List FrameOf) → limit ≤ LONGEST_FRAME → AllByRecursion (IsForwarded limit) fs → AllByRecursion (IsFrame Client LONGEST_FRAME) fs
+longer : (limit : ℕ) (fs : List FrameOf) → limit ≤ MAX_FRAME → AllByRecursion (IsForwarded limit) fs → AllByRecursion (IsFrame Client MAX_FRAME) fs
 longer limit [] l h = tt
 longer limit (f ∷ fs) l h = (h.0.sent.whole, longer limit fs l h.1)
 
-same_service : (cat : CatalogueOf) (key : StartKeyOf) (pid secret : ℕ) (fs : List FrameOf) (tail bytes : List ℕ) → AllByRecursion (IsFrame Client LONGEST_FRAME) fs → Left (flat_map spelling fs) tail bytes
+same_service : (cat : CatalogueOf) (key : StartKeyOf) (pid secret : ℕ) (fs : List FrameOf) (tail bytes : List ℕ) → AllByRecursion (IsFrame Client MAX_FRAME) fs → Left (flat_map spelling fs) tail bytes
     → service cat key pid secret [] (flat_map spelling fs ++ tail) ≡ service cat key pid secret [] bytes
 same_service cat key pid secret fs tail bytes each x = by x.nothing
   where

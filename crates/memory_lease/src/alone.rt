@@ -1,7 +1,7 @@
 //! A client's whole service, over a link of its own.
 ghost use Rattle.std.specs.Prelude.{◌≡◌, ◌<◌, ◌≤◌, ◌++◌, IfErr, IfOk, OnOk, false, true};
 ghost use Rattle.std.specs.Arc.{arc_value};
-ghost use Rattle.frame_view.specs.declared.frames.TheConstants.{LONGEST_FRAME};
+ghost use Rattle.frame_view.specs.declared.frames.TheConstants.{MAX_FRAME};
 ghost use Rattle.message_view.specs.declared.refusal.Refusal.{Refusal};
 ghost use Rattle.link_start.specs.Starts.{IsLetIn, IsLinkKey, IsStartable};
 ghost use Rattle.relay_core.specs.Returns.{IsReturned};
@@ -34,7 +34,7 @@ use std::sync::Arc;
 const START_TURNS: u32 = 65_536;
 
 /// So many pumps in a row that move nothing end a lease: the client takes one to wait, and the next one to go on.
-const MOST_WAITS: u32 = 4;
+const MAX_WAITS: u32 = 4;
 
 /// Why a client isn't served to its end.
 #[derive(Drop)]
@@ -87,7 +87,7 @@ fn begin_lease<'a>(
     limit: u32,
 ) -> Result<Relay<PatientClient<'a>, OwnServer>, AllocError>
     requires low { 4 ≤ limit }
-    requires high { limit ≤ LONGEST_FRAME }
+    requires high { limit ≤ MAX_FRAME }
     ensures begun { IfOk result (IsLease (place client.entry.facts link word limit)) }
     ensures phase { IfOk result (λ r. r.phase ≡ Running) }
 {
@@ -125,7 +125,7 @@ fn pump_to_end<C: ClientEnd, E: ServerEnd>(relay: &mut Relay<C, E>) -> Ending
             server: true,
         }) {
             Next::Again => waits = 0,
-            Next::Wait if waits < MOST_WAITS => waits += 1,
+            Next::Wait if waits < MAX_WAITS => waits += 1,
             Next::Refuse(refusal) => return Ending::Refused(refusal),
             Next::ClientDone => return Ending::Done,
             Next::Wait | Next::Closed => return Ending::Cut,
@@ -198,7 +198,7 @@ pub fn serve_alone(
     requires key { IsLinkKey (arc_value key) }
     requires cut { 0 < cut }
     requires low { 4 ≤ limit }
-    requires high { limit ≤ LONGEST_FRAME }
+    requires high { limit ≤ MAX_FRAME }
     ensures answer { IfOk result (λ out. IsAnswer server.left limit bytes.now out.items (own_pieces server.standing.server.catalogue (arc_value key) word bytes.now)) }
     ensures unserved { IfErr result (IsUnserved server.standing credential.now (arc_value key) bytes.now) }
 {

@@ -4,7 +4,7 @@ ghost use Rattle.server_end.specs.Moves.{ClientReads, ClientWrites, IsWithin, mo
 ghost use Rattle.memory_lease.specs.Patient.{IsGiven, new_patient};
 
 use bytes::BytesMut;
-use frame_view::{LONGEST_FRAME, Side, Step, next_frame};
+use frame_view::{MAX_FRAME, Side, Step, next_frame};
 use server_end::{ClientEnd, Moved};
 use std::alloc::{AllocError, Global};
 use std::marker::Model;
@@ -59,7 +59,7 @@ fn frame_end(input: &[u8], at: usize) -> usize
     ensures some { at < result }
     ensures within { result ≤ length input.now }
 {
-    match next_frame(input, at, LONGEST_FRAME, Side::Client) {
+    match next_frame(input, at, MAX_FRAME, Side::Client) {
         Step::Whole(frame) => at + frame.whole.len(),
         _ => input.len(),
     }

@@ -1,7 +1,7 @@
 //! Settings, users, a catalogue, and the lease book with its links.
 ghost use Rattle.std.specs.Prelude.{◌≡◌, ◌<◌, ◌≤◌, [], false, IfErr, IfOk, IfSome};
 ghost use Rattle.std.specs.Arc.{arc_value};
-ghost use Rattle.frame_view.specs.declared.frames.TheConstants.{LONGEST_FRAME};
+ghost use Rattle.frame_view.specs.declared.frames.TheConstants.{MAX_FRAME};
 ghost use Rattle.ini_config.specs.Bounds.{AreWithinBounds};
 ghost use Rattle.lease_book.specs.Links.{handed};
 ghost use Rattle.link_start.specs.Starts.{IsLinkKey};
@@ -137,7 +137,7 @@ impl MemoryPool {
     /// The greatest length of a frame.
     pub fn limit(&self) -> u32
         ensures low { 4 ≤ result }
-        ensures high { result ≤ LONGEST_FRAME }
+        ensures high { result ≤ MAX_FRAME }
     {
         self.settings.max_packet_size()
     }

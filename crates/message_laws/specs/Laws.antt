@@ -1,7 +1,7 @@
 -- What is written is cut out and read again, and what is read is spelled so.
 use Rattle.std.specs.Prelude.{◌≡◌, ℕ, ◌+◌, ◌^◌, ◌<◌, ◌≤◌, List, [], ◌∷◌, ◌++◌, length, Result, Ok, codes}
 use Rattle.frame_view.specs.declared.Side.TheVariants.{Client, Server}
-use Rattle.frame_view.specs.declared.first.TheConstants.{LONGEST_FIRST_PACKET}
+use Rattle.frame_view.specs.declared.first.TheConstants.{MAX_FIRST_PACKET}
 use Rattle.frame_view.specs.Frames.{AreBytes, FrameOf, spelling, before, frames, Cancels, Start, AFirst, first_front}
 use Rattle.message_view.specs.declared.kinds.TheConstants.{ASKS_NOTHING, ASKS_CLEARTEXT, ASKS_MD5, IDLE, IN_TRANSACTION, FAILED, STATEMENT, PORTAL, SEVERITY, SEVERITY_UNTRANSLATED, SQLSTATE, MESSAGE, TEXT_TYPE}
 use Rattle.message_view.specs.declared.ViewError.{ViewError}
@@ -36,7 +36,7 @@ PasswordMessageIsCut = (limit : ℕ) (t : Text) (rest : List ℕ) → limit < 2 
 
 -- A StartupMessage is the first packet, whatever follows it, where it has a first packet's length.
 abbrev pub StartupMessageIsCut : Type 0
-StartupMessageIsCut = (pairs : List (Text × Text)) (rest : List ℕ) → length (startup_message pairs) ≤ LONGEST_FIRST_PACKET → first_front (startup_message pairs ++ rest) ≡ AFirst (Start (startup_body pairs)) rest
+StartupMessageIsCut = (pairs : List (Text × Text)) (rest : List ℕ) → length (startup_message pairs) ≤ MAX_FIRST_PACKET → first_front (startup_message pairs ++ rest) ≡ AFirst (Start (startup_body pairs)) rest
 
 -- So is a CancelRequest, with its words.
 abbrev pub CancelRequestIsCut : Type 0

@@ -63,7 +63,7 @@ fn put_value(out: &mut BytesMut, value: Option<&[u8]>)
 /// DataRow: the values of a row, `None` for null.
 ///
 /// `AllocError` where a growth of `out` is refused, or the length field would be above
-/// [`frame_view::LONGEST_FRAME`]; then `out` is unchanged.
+/// [`frame_view::MAX_FRAME`]; then `out` is unchanged.
 pub fn put_data_row(out: &mut BytesMut, row: &[Option<&[u8]>]) -> Result<(), AllocError>
     requires { length row.now < 2 ^ 16 }
     ensures { Puts result out.old out.new (data_row (row_of row.now)) }
@@ -123,7 +123,7 @@ fn put_columns(out: &mut BytesMut, columns: &[Column<'_>]) -> Result<(), AllocEr
 /// RowDescription: the columns of the rows that follow, all of them text of no table.
 ///
 /// `AllocError` where a growth of `out` is refused, or the length field would be above
-/// [`frame_view::LONGEST_FRAME`]; then `out` is unchanged.
+/// [`frame_view::MAX_FRAME`]; then `out` is unchanged.
 #[tactic(auto, using(crate::proofs::RowLists::text_columns_of))]
 pub fn put_row_description(out: &mut BytesMut, columns: &[Column<'_>]) -> Result<(), AllocError>
     requires { length columns.now < 2 ^ 16 }

@@ -1,14 +1,14 @@
 //! The writers of a client's first packets.
 ghost use Rattle.std.specs.Prelude.{◌≡◌, ℕ, ◌+◌, ◌-◌, ◌^◌, ◌<◌, ◌≤◌, ◌++◌, ◌∷◌, [], length, map, min, OnOk, OnErr, IsOk};
 ghost use Rattle.std.specs.List.{flat_map};
-ghost use Rattle.frame_view.specs.declared.frames.TheConstants.{LONGEST_FRAME};
+ghost use Rattle.frame_view.specs.declared.frames.TheConstants.{MAX_FRAME};
 ghost use Rattle.message_view.specs.Bodies.{pair as spelled_pair};
 ghost use Rattle.message_view.specs.Messages.{cancel_request, startup_message};
 ghost use Rattle.message_view.specs.Parts.{pairs_of};
 
 use crate::writers::put_parts;
 use bytes::BytesMut;
-use frame_view::{CANCEL_REQUEST, LONGEST_FRAME, PROTOCOL_3_0};
+use frame_view::{CANCEL_REQUEST, MAX_FRAME, PROTOCOL_3_0};
 use std::alloc::AllocError;
 
 /// The bytes of a StartupMessage beside its pairs: length, code, and the zero byte at its end.
@@ -44,15 +44,15 @@ fn put_pair(out: &mut BytesMut, name: &[u8], value: &[u8])
 /// StartupMessage of protocol 3.0, with these pairs of a parameter's name and its value.
 ///
 /// `AllocError` where a growth of `out` is refused, or the length field would be above
-/// [`LONGEST_FRAME`]; then `out` is unchanged.
+/// [`MAX_FRAME`]; then `out` is unchanged.
 pub fn put_startup_message(out: &mut BytesMut, pairs: &[(&[u8], &[u8])]) -> Result<(), AllocError>
     ensures ok { OnOk result (out.new.items ≡ out.old.items ++ startup_message (pairs_of pairs.now)) }
     ensures err { OnErr result (out.new.items ≡ out.old.items) }
-    ensures fits { OnOk result (length (startup_message (pairs_of pairs.now)) ≤ LONGEST_FRAME) }
-    ensures room { length (startup_message (pairs_of pairs.now)) ≤ out.old.spare → length (startup_message (pairs_of pairs.now)) ≤ LONGEST_FRAME → IsOk result }
+    ensures fits { OnOk result (length (startup_message (pairs_of pairs.now)) ≤ MAX_FRAME) }
+    ensures room { length (startup_message (pairs_of pairs.now)) ≤ out.old.spare → length (startup_message (pairs_of pairs.now)) ≤ MAX_FRAME → IsOk result }
 {
     let size = pairs_length(pairs);
-    if size > LONGEST_FRAME as usize - SIZE_OF_FRAME {
+    if size > MAX_FRAME as usize - SIZE_OF_FRAME {
         return Err(AllocError);
     }
     let length = size + SIZE_OF_FRAME;

@@ -16,7 +16,7 @@ use time_limits::METRICS_EXCHANGE;
 const ROOM: usize = 1024;
 
 /// So many moves are made in one turn at most, so that one connection doesn't keep the others waiting.
-const MOST_MOVES: u32 = 64;
+const MAX_MOVES: u32 = 64;
 
 /// What is done next over a connection.
 #[derive(Clone, Copy, PartialEq, Eq, Drop)]
@@ -179,7 +179,7 @@ impl Exchange {
 
     /// Goes on as far as it can at this time; whether it is done, or its time is over.
     pub(crate) fn is_done<R: Clock>(&mut self, rt: &R, alloc: Global, is_local: bool) -> bool {
-        for _ in 0..MOST_MOVES {
+        for _ in 0..MAX_MOVES {
             let made = match self.stage {
                 Stage::Asking => self.ask(alloc, is_local),
                 Stage::Due => Move::NotNow,

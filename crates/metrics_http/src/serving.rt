@@ -11,7 +11,7 @@ use std::sync::Wait;
 use time_limits::METRICS_TURN;
 
 /// So many connections are served at once. Others wait until one of them is done, which takes at most [`METRICS_EXCHANGE`].
-const MOST_AT_ONCE: usize = 4;
+const MAX_AT_ONCE: usize = 4;
 
 /// Who asks some listeners for metrics. Four connections are served at a time, and each for at most [`METRICS_EXCHANGE`], whatever the
 /// other side does; one for which there is no memory is closed.
@@ -41,10 +41,10 @@ impl MetricsServer {
         let mut listeners = listeners;
         for listener in listeners.iter_mut() {
             poll.registry()
-                .register(listener, Token(MOST_AT_ONCE), Interest::READABLE)?;
+                .register(listener, Token(MAX_AT_ONCE), Interest::READABLE)?;
         }
         let mut places = Vec::new(alloc);
-        for _ in 0..MOST_AT_ONCE {
+        for _ in 0..MAX_AT_ONCE {
             places.push(None)?;
         }
         Ok(MetricsServer {
@@ -54,7 +54,7 @@ impl MetricsServer {
             is_local,
             places,
             poll,
-            events: Events::with_capacity(alloc, MOST_AT_ONCE + 1)?,
+            events: Events::with_capacity(alloc, MAX_AT_ONCE + 1)?,
         })
     }
 
@@ -76,7 +76,7 @@ impl MetricsServer {
 
     /// Takes the connections that wait, where there are places for them.
     fn fill<R: Clock>(&mut self, rt: &R) {
-        for place in 0..MOST_AT_ONCE {
+        for place in 0..MAX_AT_ONCE {
             if !matches!(self.places.get(place), Some(None)) {
                 continue;
             }

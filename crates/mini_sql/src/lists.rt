@@ -126,7 +126,7 @@ impl<'a> Iterator for Operands<'a> {
 }
 
 /// The most columns that a list may have.
-const MOST_COLUMNS: usize = 64;
+const MAX_COLUMNS: usize = 64;
 
 fn count_columns(typed: bool, text: &[u8]) -> usize
     requires { is_some (read (columns_at typed) (phrase text.now)) ≡ true }
@@ -147,7 +147,7 @@ pub(crate) fn after_columns(typed: bool, text: &[u8]) -> Result<&[u8], SqlError>
     ensures { Follows result (rest_of (at_most_64 (read (columns_at typed) (phrase text.now)))) }
 {
     let mut rest = text;
-    for count in 0..MOST_COLUMNS {
+    for count in 0..MAX_COLUMNS {
         let (_, after) = take_column(typed, rest)?;
         match next_item(after) {
             Some(next) => rest = next,

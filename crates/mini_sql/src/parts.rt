@@ -208,16 +208,16 @@ pub(crate) fn take_operand(text: &[u8]) -> Result<(Operand<'_>, &[u8]), SqlError
 }
 
 /// The most rows that a FETCH may ask for.
-const MOST_ROWS: u64 = 2_147_483_647;
+const MAX_ROWS: u64 = 2_147_483_647;
 
-/// The number that decimal digits spell; none above [`MOST_ROWS`].
+/// The number that decimal digits spell; none above [`MAX_ROWS`].
 fn number_at(digits: &[u8]) -> Option<u32>
     ensures { IsNumber result (decimal_from 0 digits.now) }
 {
     let mut number: u32 = 0;
     for digit in digits {
         let more = 10 * u64::from(number) + u64::from(digit.saturating_sub(b'0'));
-        if more > MOST_ROWS {
+        if more > MAX_ROWS {
             return None;
         }
         number = more as u32;
@@ -225,7 +225,7 @@ fn number_at(digits: &[u8]) -> Option<u32>
     Some(number)
 }
 
-/// The number of rows that digits ask for: 1 to [`MOST_ROWS`], without a minus.
+/// The number of rows that digits ask for: 1 to [`MAX_ROWS`], without a minus.
 fn rows_at(digits: &[u8]) -> Option<u32>
     ensures { option_map Some result ≡ row_count digits.now }
 {

@@ -21,7 +21,7 @@ pub(crate) enum Token<'a> {
 }
 
 /// The longest name, in bytes.
-const LONGEST_NAME: usize = 63;
+const MAX_NAME: usize = 63;
 
 fn is_white_byte(b: u8) -> bool
     ensures { result ≡ is_white b }
@@ -90,7 +90,7 @@ fn name(text: &[u8]) -> Option<(Token<'_>, usize)>
     ensures { IsFront result text.now }
 {
     let n = name_length(text);
-    if n > LONGEST_NAME {
+    if n > MAX_NAME {
         return None;
     }
     Some((Token::Name(&text[..n]), n))

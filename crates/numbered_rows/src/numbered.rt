@@ -19,7 +19,7 @@ pub const ROWS: usize = 10_080;
 const SLOTS: usize = 16_384;
 
 /// So many slots go at the front at most, until they are counted anew: a place that is counted with them fits.
-const MOST_GONE: usize = 1_000_000_000_000;
+const MAX_GONE: usize = 1_000_000_000_000;
 
 /// A row that bears a number of its own.
 pub trait Numbered: Drop {
@@ -149,13 +149,13 @@ impl<T: Numbered> Model for NumberedRows<T> {
     ghost use Rattle.std.specs.VecDeque.{deque_capacity};
     ghost use Rattle.numbered_rows.specs.Numbered.{rows_in};
     ghost use Rattle.numbered_rows.specs.RowNotes.{AreNotedIfAny};
-    ghost use Rattle.numbered_rows.specs.declared.numbered.TheConstants.{MOST_GONE, SLOTS};
+    ghost use Rattle.numbered_rows.specs.declared.numbered.TheConstants.{MAX_GONE, SLOTS};
 
     ghost Value = { List T };
 
     ghost view = { λ r. rows_in r.slots.items };
 
-    ghost invariant = { λ r. (SLOTS ≤ deque_capacity r.slots) × (length r.slots.items < SLOTS) × (r.len ≡ length (rows_in r.slots.items)) × (r.gone ≤ MOST_GONE) × AreNotedIfAny T.number r.notes r.gone r.slots.items };
+    ghost invariant = { λ r. (SLOTS ≤ deque_capacity r.slots) × (length r.slots.items < SLOTS) × (r.len ≡ length (rows_in r.slots.items)) × (r.gone ≤ MAX_GONE) × AreNotedIfAny T.number r.notes r.gone r.slots.items };
 }
 
 impl<T: Numbered> NumberedRows<T> {
@@ -250,7 +250,7 @@ impl<T: Numbered> NumberedRows<T> {
     fn drop_empty(&mut self)
         ensures { self.new ≡ self.old }
     {
-        if self.gone == MOST_GONE {
+        if self.gone == MAX_GONE {
             return;
         }
         if let Some(None) = self.slots.front() {

@@ -10,7 +10,7 @@ use std::alloc::{AllocError, Global};
 const CHUNK: usize = 64;
 
 /// An end has fewer calls than this until nothing moves.
-const MOST_CALLS: u64 = 200;
+const MAX_CALLS: u64 = 200;
 
 /// Ann's StartupMessage, her password, a Query, and a prepared statement that is executed.
 const PACKETS: [&[u8]; 4] = [
@@ -38,7 +38,7 @@ pub fn writes_all<E: ServerEnd>(end: &mut E, bytes: &[u8]) -> bool {
 /// Reads until nothing more is there; whether that is told in the end.
 pub fn reads_all<E: ServerEnd>(end: &mut E, given: &mut Vec<u8>) -> Result<bool, AllocError> {
     let mut chunk = [0u8; CHUNK];
-    for _ in 0..MOST_CALLS {
+    for _ in 0..MAX_CALLS {
         match end.read_some(&mut chunk) {
             Moved::Count(count) => given.extend_from_slice(&chunk[..count])?,
             Moved::NotNow => return Ok(true),

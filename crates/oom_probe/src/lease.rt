@@ -20,7 +20,7 @@ pub const TALK: &[u8] =
     b"Q\0\0\0\x20SET application_name TO 'x'\0Q\0\0\0\x21CREATE TEMP TABLE t (a text)\0";
 
 /// Bytes move fewer times than this.
-const MOST_MOVES: u64 = 2_000;
+const MAX_MOVES: u64 = 2_000;
 
 /// Whether nothing was taken from the client or given to it, and no call of it failed.
 fn is_untouched(client: &MemoryClient) -> bool {
@@ -57,7 +57,7 @@ pub fn pumped<E: ServerEnd>(relay: Relay<MemoryClient, E>) -> (MemoryClient, Ret
         server: true,
     };
     let mut relay = relay;
-    for _ in 0..MOST_MOVES {
+    for _ in 0..MAX_MOVES {
         if relay.pump(both) != Next::Again {
             break;
         }

@@ -3,7 +3,7 @@ use Rattle.std.proofs.Common.{◌≡◌, ℕ, zero, suc, ◌+◌, ◌≤◌, Boo
 use Rattle.std.proofs.lemmas.List.{drop-append-le}
 use Rattle.std.specs.List.{flat_map}
 use Rattle.frame_view.specs.declared.Side.TheVariants.{Client, Server}
-use Rattle.frame_view.specs.declared.frames.TheConstants.{LONGEST_FRAME}
+use Rattle.frame_view.specs.declared.frames.TheConstants.{MAX_FRAME}
 use Rattle.frame_view.specs.Frames.{AreBytes, FrameOf, FirstFront, AFirst, LacksFirst, FaultyFirst, Start, Cancels, AsksTls, AsksGss, Cut, first_front, frames, spelling}
 use Rattle.frame_view.proofs.FirstPackets.{first-fits}
 use Rattle.frame_view.proofs.Splitting.{frames-split, frames-go_on}
@@ -73,10 +73,10 @@ pauses_rise : (input : List ℕ) → AreBytes input → Rises (pauses input) 0 (
 pauses_rise input fit =
     let first = first_end input in
     let within : first ≤ length input = start_within input (first_front input) refl in
-    let split = frames-split Client LONGEST_FRAME (drop first input) (bytes_after first input fit) in
-    let room : first + length (flat_map spelling (frames Client LONGEST_FRAME (drop first input)).frames) ≤ length input =
-    omega (arith, within, length-drop first input, ap length split.whole, length-append (flat_map spelling (frames Client LONGEST_FRAME (drop first input)).frames) (frames Client LONGEST_FRAME (drop first input)).rest) in
-    rises_first (closing_ends first (frames Client LONGEST_FRAME (drop first input)).frames) 0 first (length input) (omega arith) within (ends_rise (frames Client LONGEST_FRAME (drop first input)).frames first (length input) room)
+    let split = frames-split Client MAX_FRAME (drop first input) (bytes_after first input fit) in
+    let room : first + length (flat_map spelling (frames Client MAX_FRAME (drop first input)).frames) ≤ length input =
+    omega (arith, within, length-drop first input, ap length split.whole, length-append (flat_map spelling (frames Client MAX_FRAME (drop first input)).frames) (frames Client MAX_FRAME (drop first input)).rest) in
+    rises_first (closing_ends first (frames Client MAX_FRAME (drop first input)).frames) 0 first (length input) (omega arith) within (ends_rise (frames Client MAX_FRAME (drop first input)).frames first (length input) room)
 
 pub allowed_within : (input given : List ℕ) → AreBytes input → allowed_to_hand_out input given ≤ length input
 allowed_within input given fit = (pauses_rise input fit).most (readies given)
@@ -88,11 +88,11 @@ count-append p [] ys = omega arith
 count-append p (x ∷ xs) ys = omega (arith, count-append p xs ys)
 
 abbrev cut_of : List ℕ → Cut
-cut_of given = frames Server LONGEST_FRAME given
+cut_of given = frames Server MAX_FRAME given
 
 readies_more : (given more : List ℕ) → readies (given ++ more) ≡ readies given + readies ((cut_of given).rest ++ more)
 readies_more given more =
-    ap (λ (c : Cut). count is_ready c.frames) (frames-go_on Server LONGEST_FRAME given more) ∙ count-append is_ready (cut_of given).frames (cut_of ((cut_of given).rest ++ more)).frames
+    ap (λ (c : Cut). count is_ready c.frames) (frames-go_on Server MAX_FRAME given more) ∙ count-append is_ready (cut_of given).frames (cut_of ((cut_of given).rest ++ more)).frames
 
 pub readies_grow : (given more : List ℕ) → readies given ≤ readies (given ++ more)
 readies_grow given more = omega (arith, readies_more given more)
@@ -108,5 +108,5 @@ still_hearing h given more k =
       within = omega (arith, k.within, length-append given more);
       few = k.few;
       answers = omega (arith, k.answers, readies_more given more, ap readies next);
-      rest = ap (λ (c : Cut). c.rest) (frames-go_on Server LONGEST_FRAME given more) ∙ ap (λ (x : List ℕ). (cut_of x).rest) next;
+      rest = ap (λ (c : Cut). c.rest) (frames-go_on Server MAX_FRAME given more) ∙ ap (λ (x : List ℕ). (cut_of x).rest) next;
     }

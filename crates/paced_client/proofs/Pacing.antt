@@ -3,7 +3,7 @@ use Rattle.std.proofs.Common.{◌≡◌, ℕ, ◌+◌, ◌<◌, ◌≤◌, Bool,
 use Rattle.std.specs.Prelude.{◌==◌, ◌&&◌, ◌||◌}
 use Rattle.std.proofs.lemmas.Bool.{true≢false, le-leb, leb-true}
 use Rattle.frame_view.specs.declared.Side.TheVariants.{Server}
-use Rattle.frame_view.specs.declared.frames.TheConstants.{LONGEST_FRAME}
+use Rattle.frame_view.specs.declared.frames.TheConstants.{MAX_FRAME}
 use Rattle.frame_view.specs.Frames.{AreBytes, Cut}
 use Rattle.frame_view.proofs.Splitting.{frames-stopped}
 use Rattle.session_run_laws.specs.Settling.{count, is_ready}
@@ -24,7 +24,7 @@ nothing = record { end = 0; readies = 0 }
 
 heard_nothing : HasHeard nothing []
 heard_nothing =
-    let none = frames-stopped Server LONGEST_FRAME [] tt in
+    let none = frames-stopped Server MAX_FRAME [] tt in
     record { within = omega arith; few = omega arith; answers = sym (ap (λ (c : Cut). count is_ready c.frames) none); rest = ap (λ (c : Cut). c.rest) none }
 
 pub starts : (input items places given : List ℕ) (cut : ℕ) → 0 < cut → AreBytes input → items ≡ input → places ≡ pauses input → given ≡ [] → IsPaced items 0 places given nothing cut

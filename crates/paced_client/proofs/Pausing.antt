@@ -5,7 +5,7 @@ use mir.Val.{bool_byte}
 use Rattle.std.specs.Borrow.{Bor}
 use Rattle.frame_view.specs.declared.Side.{Side}
 use Rattle.frame_view.specs.declared.Side.TheVariants.{Client, Server}
-use Rattle.frame_view.specs.declared.frames.TheConstants.{LONGEST_FRAME}
+use Rattle.frame_view.specs.declared.frames.TheConstants.{MAX_FRAME}
 use Rattle.frame_view.specs.declared.Frame.{Frame}
 use Rattle.frame_view.specs.declared.Step.{Step}
 use Rattle.frame_view.specs.declared.Step.TheVariants.{Whole}
@@ -50,31 +50,31 @@ size-at side limit frame bytes (Faulty f) e t = absurd t
 
 -- what stands at a place, where a whole frame does
 pub record Stands (side : Side) (frame : Frame) (bytes : List ℕ) (at : ℕ) : Type 0 where
-  pub first : (frames side LONGEST_FRAME (drop at bytes)).frames ≡ plain frame ∷ (frames side LONGEST_FRAME (drop (at + length frame.whole.now) bytes)).frames
-  pub rest : (frames side LONGEST_FRAME (drop at bytes)).rest ≡ (frames side LONGEST_FRAME (drop (at + length frame.whole.now) bytes)).rest
+  pub first : (frames side MAX_FRAME (drop at bytes)).frames ≡ plain frame ∷ (frames side MAX_FRAME (drop (at + length frame.whole.now) bytes)).frames
+  pub rest : (frames side MAX_FRAME (drop at bytes)).rest ≡ (frames side MAX_FRAME (drop (at + length frame.whole.now) bytes)).rest
   pub size : length frame.whole.now ≡ length (spelling (plain frame))
   pub within : at + length frame.whole.now ≤ length bytes
   pub some : 5 ≤ length frame.whole.now
 
-pub stands : (side : Side) (frame : Frame) (bytes : List ℕ) (at : ℕ) → at ≤ length bytes → Tells (Whole frame) (drop at bytes) (front side LONGEST_FRAME (drop at bytes)) → Stands side frame bytes at
+pub stands : (side : Side) (frame : Frame) (bytes : List ℕ) (at : ℕ) → at ≤ length bytes → Tells (Whole frame) (drop at bytes) (front side MAX_FRAME (drop at bytes)) → Stands side frame bytes at
 stands side frame bytes at h t =
-    let k = taken_at side LONGEST_FRAME frame bytes at h t in
+    let k = taken_at side MAX_FRAME frame bytes at h t in
     record {
       first = ap (λ (c : Cut). c.frames) k.first;
       rest = ap (λ (c : Cut). c.rest) k.first;
-      size = size-at side LONGEST_FRAME frame (drop at bytes) (front side LONGEST_FRAME (drop at bytes)) refl t;
+      size = size-at side MAX_FRAME frame (drop at bytes) (front side MAX_FRAME (drop at bytes)) refl t;
       within = k.within;
       some = k.some;
     }
 
 -- where none does
-pub none_stands : (side : Side) (x : Step) (bytes : List ℕ) → ((frame : Frame) → x ≡ Whole frame → ⊥) → Tells x bytes (front side LONGEST_FRAME bytes) → frames side LONGEST_FRAME bytes ≡ record { frames = []; rest = bytes }
-none_stands side x bytes n t = frames-stopped side LONGEST_FRAME bytes (not_whole x bytes (front side LONGEST_FRAME bytes) n t)
+pub none_stands : (side : Side) (x : Step) (bytes : List ℕ) → ((frame : Frame) → x ≡ Whole frame → ⊥) → Tells x bytes (front side MAX_FRAME bytes) → frames side MAX_FRAME bytes ≡ record { frames = []; rest = bytes }
+none_stands side x bytes n t = frames-stopped side MAX_FRAME bytes (not_whole x bytes (front side MAX_FRAME bytes) n t)
 
 -- ---- the ends of closing messages
 
 abbrev ends_from : List ℕ → ℕ → List ℕ
-ends_from input at = closing_ends at (frames Client LONGEST_FRAME (drop at input)).frames
+ends_from input at = closing_ends at (frames Client MAX_FRAME (drop at input)).frames
 
 -- a frame that ends here, and the frames after it
 abbrev pub ends_after : List FrameOf → Bool → ℕ → List ℕ
@@ -86,22 +86,22 @@ ends_one f fs at true e = rw e refl
 ends_one f fs at false e = rw e refl
 
 ends_at : (frame : Frame) (input : List ℕ) (at : ℕ) (b : Bool) → closes (plain frame) ≡ b → Stands Client frame input at
-    → ends_from input at ≡ ends_after (frames Client LONGEST_FRAME (drop (at + length frame.whole.now) input)).frames b (at + length frame.whole.now)
+    → ends_from input at ≡ ends_after (frames Client MAX_FRAME (drop (at + length frame.whole.now) input)).frames b (at + length frame.whole.now)
 ends_at frame input at b e s =
-    let after = (frames Client LONGEST_FRAME (drop (at + length frame.whole.now) input)).frames in
+    let after = (frames Client MAX_FRAME (drop (at + length frame.whole.now) input)).frames in
     ap (closing_ends at) s.first ∙ ends_one (plain frame) after at b e ∙ ap (λ (n : ℕ). ends_after after b (at + n)) (sym s.size)
 
-pub ends_pushed : (frame : Frame) (input was now all : List ℕ) (at : ℕ) → at ≤ length input → Tells (Whole frame) (drop at input) (front Client LONGEST_FRAME (drop at input)) → closes (plain frame) ≡ true
+pub ends_pushed : (frame : Frame) (input was now all : List ℕ) (at : ℕ) → at ≤ length input → Tells (Whole frame) (drop at input) (front Client MAX_FRAME (drop at input)) → closes (plain frame) ≡ true
     → now ≡ was ++ (at + length frame.whole.now) ∷ [] → was ++ ends_from input at ≡ all → now ++ ends_from input (at + length frame.whole.now) ≡ all
 ends_pushed frame input was now all at h t e n w =
     let end = at + length frame.whole.now in
     ap (λ (x : List ℕ). x ++ ends_from input end) n ∙ append_assoc was (end ∷ []) (ends_from input end) ∙ ap (λ (x : List ℕ). was ++ x) (sym (ends_at frame input at true e (stands Client frame input at h t))) ∙ w
 
-pub ends_passed : (frame : Frame) (input was all : List ℕ) (at : ℕ) → at ≤ length input → Tells (Whole frame) (drop at input) (front Client LONGEST_FRAME (drop at input)) → closes (plain frame) ≡ false
+pub ends_passed : (frame : Frame) (input was all : List ℕ) (at : ℕ) → at ≤ length input → Tells (Whole frame) (drop at input) (front Client MAX_FRAME (drop at input)) → closes (plain frame) ≡ false
     → was ++ ends_from input at ≡ all → was ++ ends_from input (at + length frame.whole.now) ≡ all
 ends_passed frame input was all at h t e w = ap (λ (x : List ℕ). was ++ x) (sym (ends_at frame input at false e (stands Client frame input at h t))) ∙ w
 
-pub ends_all : (x : Step) (input was all : List ℕ) (at : ℕ) → ((frame : Frame) → x ≡ Whole frame → ⊥) → Tells x (drop at input) (front Client LONGEST_FRAME (drop at input)) → was ++ ends_from input at ≡ all → was ≡ all
+pub ends_all : (x : Step) (input was all : List ℕ) (at : ℕ) → ((frame : Frame) → x ≡ Whole frame → ⊥) → Tells x (drop at input) (front Client MAX_FRAME (drop at input)) → was ++ ends_from input at ≡ all → was ≡ all
 ends_all x input was all at n t w = sym (append-nil was) ∙ ap (λ (c : Cut). was ++ closing_ends at c.frames) (sym (none_stands Client x (drop at input) n t)) ∙ w
 
 -- ---- what was heard
@@ -110,7 +110,7 @@ as_number : (b : Bool) → bool_byte b ≡ (if b then 1 else 0)
 as_number true = refl
 as_number false = refl
 
-pub hears_one : (h : Heard) (given : List ℕ) (frame : Frame) (one : ℕ) → IsHearing h given → Tells (Whole frame) (drop h.end given) (front Server LONGEST_FRAME (drop h.end given)) → one ≡ bool_byte (is_ready (plain frame))
+pub hears_one : (h : Heard) (given : List ℕ) (frame : Frame) (one : ℕ) → IsHearing h given → Tells (Whole frame) (drop h.end given) (front Server MAX_FRAME (drop h.end given)) → one ≡ bool_byte (is_ready (plain frame))
     → IsHearing (record { end = h.end + length frame.whole.now; readies = h.readies + one }) given
 hears_one h given frame one k t e =
     let s = stands Server frame given h.end k.within t in
@@ -122,7 +122,7 @@ hears_one h given frame one k t e =
       rest = k.rest ∙ s.rest;
     }
 
-pub hears_all : (x : Step) (h : Heard) (given : List ℕ) → ((frame : Frame) → x ≡ Whole frame → ⊥) → Tells x (drop h.end given) (front Server LONGEST_FRAME (drop h.end given)) → IsHearing h given → HasHeard h given
+pub hears_all : (x : Step) (h : Heard) (given : List ℕ) → ((frame : Frame) → x ≡ Whole frame → ⊥) → Tells x (drop h.end given) (front Server MAX_FRAME (drop h.end given)) → IsHearing h given → HasHeard h given
 hears_all x h given n t k =
     let none = none_stands Server x (drop h.end given) n t in
     record {

@@ -1,7 +1,7 @@
 -- Where a client waits for its answers (PostgreSQL manual, "Message Flow").
 use Rattle.std.specs.Prelude.{ℕ, ◌+◌, Bool, nat_le, List, [], ◌∷◌, length, drop, slice_index_or, if◌then◌else◌}
 use Rattle.frame_view.specs.declared.Side.TheVariants.{Client, Server}
-use Rattle.frame_view.specs.declared.frames.TheConstants.{LONGEST_FRAME}
+use Rattle.frame_view.specs.declared.frames.TheConstants.{MAX_FRAME}
 use Rattle.frame_view.specs.Frames.{FrameOf, spelling, frames, Start, FirstFront, AFirst, first_front}
 use Rattle.session_run_laws.specs.Settling.{count, closes, is_ready}
 
@@ -22,11 +22,11 @@ closing_ends at (f ∷ fs) =
 
 -- The client waits for a ReadyForQuery at the end of its StartupMessage, and at that of each closing message.
 abbrev pub pauses : List ℕ → List ℕ
-pauses input = first_end input ∷ closing_ends (first_end input) (frames Client LONGEST_FRAME (drop (first_end input) input)).frames
+pauses input = first_end input ∷ closing_ends (first_end input) (frames Client MAX_FRAME (drop (first_end input) input)).frames
 
 -- how many ReadyForQuery came whole among these bytes
 abbrev pub readies : List ℕ → ℕ
-readies given = count is_ready (frames Server LONGEST_FRAME given).frames
+readies given = count is_ready (frames Server MAX_FRAME given).frames
 
 -- How many bytes of the input may have been taken once the client was given these bytes: those before the first pause that
 -- isn't answered, or all.

@@ -1,7 +1,7 @@
 //! Where a client waits for its answers, and how many of them came (PostgreSQL manual, "Message Flow").
 ghost use Rattle.std.specs.Prelude.{◌≡◌, ◌≤◌, length, drop, IfOk, OnOk, ◌++◌};
 ghost use Rattle.frame_view.specs.declared.Side.TheVariants.{Client};
-ghost use Rattle.frame_view.specs.declared.frames.TheConstants.{LONGEST_FRAME as LONGEST};
+ghost use Rattle.frame_view.specs.declared.frames.TheConstants.{MAX_FRAME as LONGEST};
 ghost use Rattle.frame_view.specs.Frames.{frames};
 ghost use Rattle.paced_client.specs.Pauses as spec;
 ghost use Rattle.paced_client.specs.Pauses.{closing_ends};
@@ -10,7 +10,7 @@ ghost use Rattle.paced_client.specs.Hearing.{HasHeard, IsHearing};
 use frame_view::client::is_closing;
 use frame_view::laws::are_bytes;
 use frame_view::server::READY_FOR_QUERY;
-use frame_view::{FirstStep, LONGEST_FRAME, Side, Step, first_packet, next_frame};
+use frame_view::{FirstStep, MAX_FRAME, Side, Step, first_packet, next_frame};
 use std::alloc::{AllocError, Global};
 
 /// The bytes of a StartupMessage's length and code.
@@ -34,7 +34,7 @@ fn put_closing_ends(input: &[u8], from: usize, ends: &mut Vec<usize>) -> Result<
     ensures { OnOk result (ends.new.items ≡ ends.old.items ++ closing_ends from (frames Client LONGEST (drop from input.now)).frames) }
 {
     let mut at = from;
-    'frames: while let Step::Whole(frame) = next_frame(input, at, LONGEST_FRAME, Side::Client) {
+    'frames: while let Step::Whole(frame) = next_frame(input, at, MAX_FRAME, Side::Client) {
         at += frame.whole.len();
         if is_closing(frame.kind) {
             ends.push(at)?;
@@ -71,7 +71,7 @@ impl Heard {
         'frames: while let Step::Whole(frame) = next_frame(
             given,
             self.end,
-            LONGEST_FRAME,
+            MAX_FRAME,
             Side::Server,
         ) {
             self.end += frame.whole.len();

@@ -2,7 +2,7 @@
 use Rattle.std.specs.Prelude.{◌≡◌, ℕ, suc, List, [], ◌∷◌, ◌++◌, length, slice_set, Bool, true, false, not, ◌||◌, nat_lt, Result, Ok, Err, if◌then◌else◌, bytes_eq}
 use Rattle.std.specs.List.{list_any}
 use Rattle.start_keys.specs.StartPairs.{Text}
-use Rattle.param_track.specs.declared.reported.TheConstants.{MOST_NAMES}
+use Rattle.param_track.specs.declared.reported.TheConstants.{MAX_NAMES}
 use Rattle.param_track.specs.declared.reported.ReportError.{ReportError}
 use Rattle.param_track.specs.declared.reported.ReportError.TheVariants.{TooMany, OutOfMemory}
 use Rattle.param_track.specs.Reports.{Report, last_told}
@@ -35,7 +35,7 @@ with_first (k ∷ kept) r = if bytes_eq k.name r.0 then first_told r ∷ kept el
 
 -- it has the name, or room for another
 abbrev pub fits : List Kept → Text → Bool
-fits kept name = has_name kept name || nat_lt (length kept) MOST_NAMES
+fits kept name = has_name kept name || nat_lt (length kept) MAX_NAMES
 
 -- It was added; or all is as it was, and it doesn't fit or memory was refused.
 abbrev pub Adds : Report → List Kept → List Kept → Result (Unit {0}) ReportError → Type 0

@@ -11,7 +11,7 @@ ghost use Rattle.std.specs.Prelude.{◌≡◌};
 ghost use Rattle.param_track.specs.declared.StartKeyError.TheVariants.{Memory};
 
 pub use key::start_key;
-pub use reported::{MOST_NAMES, ReportError, Reported, StartReport};
+pub use reported::{MAX_NAMES, ReportError, Reported, StartReport};
 use std::alloc::AllocError;
 pub use uses::unsupported_name;
 

@@ -11,12 +11,12 @@ use std::alloc::{AllocError, Global};
 use std::marker::Model;
 
 /// How many names a start may report.
-pub const MOST_NAMES: usize = 64;
+pub const MAX_NAMES: usize = 64;
 
 /// Why a report of the start wasn't added.
 #[derive(Clone, Copy, Debug, PartialEq, Eq, Drop)]
 pub enum ReportError {
-    /// [`MOST_NAMES`] other names were reported already.
+    /// [`MAX_NAMES`] other names were reported already.
     TooMany,
     /// An allocation failed.
     OutOfMemory,
@@ -192,7 +192,7 @@ impl Reported {
     fn fits(&self, name: &[u8]) -> bool
         ensures { result ≡ spec.fits self.now name.now }
     {
-        self.has(name) || self.reports.len() < MOST_NAMES
+        self.has(name) || self.reports.len() < MAX_NAMES
     }
 
     /// Puts a report of the start at the place of its name, which fits.
@@ -210,7 +210,7 @@ impl Reported {
     /// Adds a report of the start. Of a name that was reported already the new value counts, at its old
     /// place: what the server told last is what it is held to.
     ///
-    /// [`ReportError::TooMany`] where it is a new name and [`MOST_NAMES`] are there;
+    /// [`ReportError::TooMany`] where it is a new name and [`MAX_NAMES`] are there;
     /// [`ReportError::OutOfMemory`] only where there is none left. With either all stays as it was.
     pub fn add(&mut self, alloc: Global, report: &StatusView<'_>) -> Result<(), ReportError>
         ensures { Adds (report.now.name.now, report.now.setting.now) self.old self.new result }

@@ -4,7 +4,7 @@ use Rattle.std.specs.Prelude.{map}
 use Rattle.std.specs.List.{flat_map, AllByRecursion}
 use Rattle.std.proofs.lemmas.Grind.{flat_map-append}
 use Rattle.frame_view.specs.declared.Side.TheVariants.{Server}
-use Rattle.frame_view.specs.declared.frames.TheConstants.{LONGEST_FRAME}
+use Rattle.frame_view.specs.declared.frames.TheConstants.{MAX_FRAME}
 use Rattle.frame_view.specs.Frames.{AreBytes, FrameOf, IsFrame, spelling}
 use Rattle.message_laws.proofs.Trips.{bytes_after}
 use Rattle.message_view.specs.declared.KeyWord.{KeyWord}
@@ -152,11 +152,11 @@ unfolding service
 service_fresh cat key word left s e = ap (λ (r : Result State Cause). flat_map spelling (served cat r word.pid word.secret [] (client_frames left))) e ∙ flat_map-append spelling (welcome s word.pid word.secret) (run_frames cat s [] (client_frames left)).replies
 
 -- whole frames before some bytes are the first of the replies
-first_replies : (cat : CatalogueOf) (key : StartKeyOf) (s : State) (ws arrived : List FrameOf) (since held left more : List ℕ) → Reaches cat key s → AreBytes left → AllByRecursion (IsFrame Server LONGEST_FRAME) arrived
+first_replies : (cat : CatalogueOf) (key : StartKeyOf) (s : State) (ws arrived : List FrameOf) (since held left more : List ℕ) → Reaches cat key s → AreBytes left → AllByRecursion (IsFrame Server MAX_FRAME) arrived
     → since ≡ flat_map spelling ws ++ flat_map spelling arrived → (since ++ held) ++ more ≡ flat_map spelling ws ++ flat_map spelling (run_frames cat s [] (client_frames left)).replies
     → SplitsOff (run_frames cat s [] (client_frames left)).replies arrived [] (held ++ more)
 first_replies cat key s ws arrived since held left more r ab came i b =
-    split_whole Server LONGEST_FRAME _ arrived (held ++ more) (omega arith) (run_replies_are_frames cat key s [] (client_frames left) r (client_frames_are_sent left ab)) came
+    split_whole Server MAX_FRAME _ arrived (held ++ more) (omega arith) (run_replies_are_frames cat key s [] (client_frames left) r (client_frames_are_sent left ab)) came
     (same_back (flat_map spelling ws) _ (flat_map spelling arrived ++ (held ++ more))
     (sym b ∙ (append_assoc since held more ∙ (ap (λ (l : List ℕ). l ++ (held ++ more)) i ∙ append_assoc (flat_map spelling ws) (flat_map spelling arrived) (held ++ more)))))
 

@@ -10,7 +10,7 @@ use std::alloc::{AllocError, Global};
 use std::marker::Model;
 
 /// The turns that are taken after an act at most.
-const MOST_TURNS: u32 = 100_000;
+const MAX_TURNS: u32 = 100_000;
 
 /// The clients of a play, in the order of their scripts, and what they are served over.
 pub(crate) struct Table<'a> {
@@ -115,7 +115,7 @@ impl<'a> Table<'a> {
     pub(crate) fn serve(&mut self) -> Result<(), AllocError>
         ensures { self.new ≡ self.old }
     {
-        for _ in 0..MOST_TURNS {
+        for _ in 0..MAX_TURNS {
             if !self.turn()? {
                 return Ok(());
             }

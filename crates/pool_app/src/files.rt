@@ -20,7 +20,7 @@ use text_lines::Text;
 use user_file::{UserTable, read_users};
 
 /// How many bytes a file, or standard input, may have.
-pub const MOST_BYTES: u64 = 16_777_216;
+pub const MAX_BYTES: u64 = 16_777_216;
 
 /// Where the system's random bytes are had, without an end.
 const SYSTEM_SEED: &str = "/dev/urandom";
@@ -108,7 +108,7 @@ pub fn read_file<'a, R: Files>(
         Ok(file) => file,
         Err(error) => return Err(unread(path, ReadError::Io(error))),
     };
-    match read_all(alloc, file, MOST_BYTES) {
+    match read_all(alloc, file, MAX_BYTES) {
         Ok(bytes) => Ok(bytes),
         Err(fault) => Err(unread(path, fault)),
     }

@@ -180,7 +180,7 @@ impl<R: PoolRuntime, F: Source, K: Ledgers> Pool<R, F, K> {
 
     /// A poll. Where the system has none left, the oldest connection whose client hasn't said who it is gives way; `None` where none does.
     fn new_poll(&self) -> Option<GatePoll> {
-        for _ in 0..MOST_CUT {
+        for _ in 0..MAX_CUT {
             match GatePoll::new(&self.rt, self.alloc) {
                 Ok(poll) => return Some(poll),
                 Err(_) if self.watch.cut_oldest() => thread::sleep(&self.rt, GIVING_WAY.duration()),
@@ -397,7 +397,7 @@ impl<R: PoolRuntime, F: Source, K: Ledgers> Pool<R, F, K> {
 const HEARD: usize = 512;
 
 /// So many connections give way to one at most.
-pub(crate) const MOST_CUT: u32 = 8;
+pub(crate) const MAX_CUT: u32 = 8;
 
 /// So many seconds, where 0 is no limit.
 fn some_time(seconds: u32) -> Option<u32> {

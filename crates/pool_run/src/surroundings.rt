@@ -8,7 +8,7 @@ ghost use Rattle.tcp_reach.specs.Streams.{own_place};
 use crate::keeping::{Keeper, Source};
 use crate::log::PoolLog;
 use crate::places::Places;
-use crate::pool::MOST_CUT;
+use crate::pool::MAX_CUT;
 use crate::runtime::PoolRuntime;
 use book_model::limits::Limits;
 use bytes::BytesMut;
@@ -109,7 +109,7 @@ fn reach<R: Threads + Wait + Clock + Net<Listener = net::TcpListener, Stream = n
 ) -> io::Result<(TcpEnd, Place)>
     ensures { IfOk result (λ p. (p.0 ≡ new_connection (Some p.1)) × IsPlaceOf host.now port p.1) }
 {
-    for _ in 0..MOST_CUT {
+    for _ in 0..MAX_CUT {
         match dial(rt, alloc, host, port, number, seconds, keepalive) {
             Err(error) if is_short_of_files(&error) && watch.cut_oldest() => {
                 thread::sleep(rt, GIVING_WAY.duration())

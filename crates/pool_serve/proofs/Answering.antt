@@ -5,7 +5,7 @@ use Rattle.std.specs.List.{flat_map, AllByRecursion}
 use Rattle.std.proofs.lemmas.Grind.{flat_map-append}
 use Rattle.frame_view.specs.declared.Side.{Side}
 use Rattle.frame_view.specs.declared.Side.TheVariants.{Client, Server}
-use Rattle.frame_view.specs.declared.frames.TheConstants.{LONGEST_FRAME}
+use Rattle.frame_view.specs.declared.frames.TheConstants.{MAX_FRAME}
 use Rattle.frame_view.specs.Frames.{Cut, FrameOf, IsFrame, Stops, frames, front, spelling}
 use Rattle.frame_view.proofs.Splitting.{frames-go_on, splits-one_way}
 use Rattle.message_view.specs.declared.KeyWord.{KeyWord}
@@ -38,8 +38,8 @@ use Rattle.pool_serve.specs.declared.final_message.FinalMessage.TheVariants as l
 
 -- ---- the service of more bytes
 
-more_frames : (a b : List ℕ) → client_frames (a ++ b) ≡ client_frames a ++ client_frames ((frames Client LONGEST_FRAME a).rest ++ b)
-more_frames a b = ap (λ (c : Cut). c.frames) (frames-go_on Client LONGEST_FRAME a b)
+more_frames : (a b : List ℕ) → client_frames (a ++ b) ≡ client_frames a ++ client_frames ((frames Client MAX_FRAME a).rest ++ b)
+more_frames a b = ap (λ (c : Cut). c.frames) (frames-go_on Client MAX_FRAME a b)
 
 -- the pieces go on
 record GoesOn (part whole : List (List ℕ)) : Type 0 where
@@ -59,7 +59,7 @@ served_on cat (Ok s) pid secret marks fs gs =
 
 pieces_on : (cat : CatalogueOf) (key : StartKeyOf) (word : KeyWord) (marks : List Bool) (a b : List ℕ) → GoesOn (service_pieces cat key word marks a) (service_pieces cat key word marks (a ++ b))
 pieces_on cat key word marks a b =
-    let x = served_on cat (fresh cat key) word.pid word.secret marks (client_frames a) (client_frames ((frames Client LONGEST_FRAME a).rest ++ b)) in
+    let x = served_on cat (fresh cat key) word.pid word.secret marks (client_frames a) (client_frames ((frames Client MAX_FRAME a).rest ++ b)) in
     record { more = x.more; both = x.both ∙ ap (λ (fs : List FrameOf). map spelling (served cat (fresh cat key) word.pid word.secret marks fs)) (sym (more_frames a b)) }
 
 at_piece_on : (out : List ℕ) (part whole : List (List ℕ)) → GoesOn part whole → IsAtPiece out part → IsAtPiece out whole
@@ -116,23 +116,23 @@ unrefused law own p v x t f c ct cg =
 
 -- ---- at a border of the server's frames
 
-all_client : (fs : List FrameOf) → AllByRecursion IsSent fs → AllByRecursion (IsFrame Client LONGEST_FRAME) fs
+all_client : (fs : List FrameOf) → AllByRecursion IsSent fs → AllByRecursion (IsFrame Client MAX_FRAME) fs
 all_client [] h = tt
 all_client (f ∷ fs) h = (h.0.whole, all_client fs h.1)
 
 -- the frames of bytes that are these, with the beginning of one more
-frames_of : (fs : List FrameOf) (tail : List ℕ) → AllByRecursion IsSent fs → Stops (front Client LONGEST_FRAME tail) → client_frames (flat_map spelling fs ++ tail) ≡ fs
-frames_of fs tail h stops = ap (λ (c : Cut). c.frames) (splits-one_way Client LONGEST_FRAME (flat_map spelling fs ++ tail) fs tail (omega arith) (record { whole = refl; each = all_client fs h; stops = stops }))
+frames_of : (fs : List FrameOf) (tail : List ℕ) → AllByRecursion IsSent fs → Stops (front Client MAX_FRAME tail) → client_frames (flat_map spelling fs ++ tail) ≡ fs
+frames_of fs tail h stops = ap (λ (c : Cut). c.frames) (splits-one_way Client MAX_FRAME (flat_map spelling fs ++ tail) fs tail (omega arith) (record { whole = refl; each = all_client fs h; stops = stops }))
 
 pieces_fresh : (cat : CatalogueOf) (key : StartKeyOf) (word : KeyWord) (marks : List Bool) (bytes : List ℕ) (fs : List FrameOf) (s : State) → fresh cat key ≡ Ok s → client_frames bytes ≡ fs → service_pieces cat key word marks bytes ≡ map spelling (welcome s word.pid word.secret ++ (run_frames cat s marks fs).replies)
 pieces_fresh cat key word marks bytes fs s e f = ap₂ (λ (r : Result State Cause) (gs : List FrameOf). map spelling (served cat r word.pid word.secret marks gs)) e f
 
 -- the welcome and whole frames, which begin what is owed, are first pieces
-whole_pieces : (ws gs rs : List FrameOf) (out more : List ℕ) (pieces : List (List ℕ)) → AllByRecursion (IsFrame Server LONGEST_FRAME) rs → AllByRecursion (IsFrame Server LONGEST_FRAME) gs → out ≡ flat_map spelling ws ++ flat_map spelling gs
+whole_pieces : (ws gs rs : List FrameOf) (out more : List ℕ) (pieces : List (List ℕ)) → AllByRecursion (IsFrame Server MAX_FRAME) rs → AllByRecursion (IsFrame Server MAX_FRAME) gs → out ≡ flat_map spelling ws ++ flat_map spelling gs
     → out ++ more ≡ flat_map spelling ws ++ flat_map spelling rs → pieces ≡ map spelling (ws ++ rs) → IsAtPiece out pieces
 whole_pieces ws gs rs out more pieces ar ag e b p =
     let all : flat_map spelling ws ++ flat_map spelling rs ≡ flat_map spelling ws ++ (flat_map spelling gs ++ more) = sym b ∙ (ap (λ (l : List ℕ). l ++ more) e ∙ append_assoc (flat_map spelling ws) (flat_map spelling gs) more) in
-    let o : SplitsOff rs gs [] more = split_whole Server LONGEST_FRAME rs gs more (omega arith) ar ag (same_back (flat_map spelling ws) (flat_map spelling rs) (flat_map spelling gs ++ more) all) in
+    let o : SplitsOff rs gs [] more = split_whole Server MAX_FRAME rs gs more (omega arith) ar ag (same_back (flat_map spelling ws) (flat_map spelling rs) (flat_map spelling gs ++ more) all) in
     record {
       given = map spelling (ws ++ gs);
       kept = map spelling o.more;
@@ -154,12 +154,12 @@ at_border law own p v x t f b =
     let opened : fresh cat p.key ≡ Ok s = ap (fresh cat) (sym x.same.0) ∙ c.stands.is_fresh in
     let ws : List FrameOf = welcome s p.word.pid p.word.secret in
     let sent : AllByRecursion IsSent a.forwarded = all-sent v.to_link.limit a.forwarded a.went in
-    let stops : Stops (front Client LONGEST_FRAME a.tail) = subst (λ (d : Side). Stops (front d LONGEST_FRAME a.tail)) x.goes.flow.side_is (opens_stops v.to_link.side v.to_link.limit LONGEST_FRAME a.tail v.to_link.kind v.to_link.rest x.goes.flow.high (omega arith) a.opens) in
+    let stops : Stops (front Client MAX_FRAME a.tail) = subst (λ (d : Side). Stops (front d MAX_FRAME a.tail)) x.goes.flow.side_is (opens_stops v.to_link.side v.to_link.limit MAX_FRAME a.tail v.to_link.kind v.to_link.rest x.goes.flow.high (omega arith) a.opens) in
     let fs_are : client_frames went ≡ a.forwarded = frames_of a.forwarded a.tail sent stops in
     let rs : List FrameOf = (run_frames cat s marks a.forwarded).replies in
     let pieces : owed_at p marks went ≡ map spelling (ws ++ rs) = pieces_fresh cat p.key p.word marks went a.forwarded s opened fs_are in
     let reached : Reaches cat v.key s = fresh_is_reached cat v.key s c.stands.lawful c.stands.lawful_key c.stands.is_fresh in
-    let whole : AllByRecursion (IsFrame Server LONGEST_FRAME) rs = run_replies_are_frames cat v.key s marks a.forwarded reached sent in
+    let whole : AllByRecursion (IsFrame Server MAX_FRAME) rs = run_replies_are_frames cat v.key s marks a.forwarded reached sent in
     let out_is : b.since ≡ flat_map spelling ws ++ flat_map spelling b.arrived =
     b.whole ∙ ap (λ (g : List ℕ). g ++ flat_map spelling b.arrived) (x.greets f s c.stands.is_fresh ∙ ap (λ (w : KeyWord). flat_map spelling (welcome s w.pid w.secret)) x.same.3) in
     let g : Begins b.since (joined_pieces (owed_at p marks went)) = subst (λ (l : List ℕ). Begins l (joined_pieces (owed_at p marks went))) (same_since p.given b.since a.since v.client.given (b.given t) a.given) (front_given own p v x a) in

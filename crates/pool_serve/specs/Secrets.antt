@@ -2,7 +2,7 @@
 use Rattle.std.specs.Prelude.{◌≡◌, false, nat_le, if◌then◌else◌, Option, Some, None}
 use Rattle.ini_config.specs.declared.option_values.AuthType.{AuthType}
 use Rattle.ini_config.specs.declared.option_values.AuthType.TheVariants.{Trust, Plain, Md5, ScramSha256}
-use Rattle.scram.specs.declared.server_messages.TheConstants.{MOST_ROUNDS}
+use Rattle.scram.specs.declared.server_messages.TheConstants.{MAX_ROUNDS}
 use Rattle.user_file.specs.Salts.{keys_of}
 use Rattle.user_file.specs.Secrets.{Text, accepts_md5, accepts_plain}
 use Rattle.user_file.specs.declared.secrets.Secret.{Secret}
@@ -14,7 +14,7 @@ use Rattle.log_lines.specs.declared.notes.LoginFailure.TheVariants.{Digest, NoSe
 abbrev pub uselessness : AuthType → Secret → Option LoginFailure
 uselessness Trust s = None
 uselessness Plain secret.Unusable = Some NoSecret
-uselessness Plain (secret.Scram verifier) = if nat_le verifier.rounds MOST_ROUNDS then None else Some Rounds
+uselessness Plain (secret.Scram verifier) = if nat_le verifier.rounds MAX_ROUNDS then None else Some Rounds
 uselessness Plain (secret.Plain password) = None
 uselessness Plain (secret.Md5 digits) = None
 uselessness Md5 secret.Unusable = Some NoSecret

@@ -31,7 +31,7 @@ use log_lines::lines::sqlstate;
 use message_view::{KeyView, KeyWord};
 use server_end::gate::Gate;
 use server_end::{ClientEnd, ServerEnd};
-use time_limits::MOST_TURNS;
+use time_limits::MAX_TURNS;
 
 /// The words by which a cancel names a client: those of the BackendKeyData that it is given.
 fn key_of(word: KeyWord) -> KeyView
@@ -175,7 +175,7 @@ impl<'a, D: LinkDesk, G: Gate<D::End>> Worker<'a, D, G> {
         ensures refused { MayTake result }
         ensures home { IsGrantAtHome D.home result }
     {
-        for _ in 0..MOST_TURNS {
+        for _ in 0..MAX_TURNS {
             match self.desk.take(&mut self.pass) {
                 Grant::Queued => {
                     if self.gate.client_has_left() {
@@ -250,7 +250,7 @@ impl<'a, D: LinkDesk, G: Gate<D::End>> Worker<'a, D, G> {
         ensures holder { D.holder self.new.pass ≡ D.holder self.old.pass }
     {
         let seconds = logged_in.login.settings().query_wait_timeout();
-        for _ in 0..MOST_TURNS {
+        for _ in 0..MAX_TURNS {
             match self
                 .desk
                 .await_place(&mut self.pass, &logged_in.key, self.visit.since, seconds)
@@ -285,7 +285,7 @@ impl<'a, D: LinkDesk, G: Gate<D::End>> Worker<'a, D, G> {
         ensures share { IfErr result (λ e. Evens (D.told self.old.pass) (D.told self.new.pass)) }
         ensures ended { IfErr result (λ e. IsUnlinkedAtLast D.home logged_in.now (D.told self.old.pass) (D.told self.new.pass) e) }
     {
-        for _ in 0..MOST_TURNS {
+        for _ in 0..MAX_TURNS {
             match self.ask_link(logged_in) {
                 Ok(link) => return Ok(link),
                 Err(ending) => {

@@ -71,9 +71,9 @@ fn login_note<C: ClientEnd>(run: &LoginRun<C>) -> Option<Note<'_>> {
             Note::UnsupportedParameter(name),
         ),
         (LoginReply::Refusal(refusal), _) => Some(Note::Refused(*refusal)),
-        (LoginReply::Failure(LoginRefusal::WrongPassword), _) => Some(Note::LoginFailed(login_failure(
-            run,
-        ))),
+        (LoginReply::Failure(LoginRefusal::WrongPassword), _) => Some(Note::LoginFailed(
+            login_failure(run),
+        )),
         (LoginReply::Failure(LoginRefusal::NoDatabase), _) => Some(Note::NoDatabase),
         (
             LoginReply::Nothing

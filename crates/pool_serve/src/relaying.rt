@@ -25,7 +25,7 @@ use relay_core::relay::Relay;
 use relay_laws::{Next, leases_are_allowed};
 use server_end::gate::{Gate, Ready};
 use server_end::{ClientEnd, ServerEnd};
-use time_limits::MOST_TURNS;
+use time_limits::MAX_TURNS;
 
 /// Both ends may be tried.
 const BOTH: Ready = Ready {
@@ -80,7 +80,7 @@ fn pumped<C: ClientEnd, E: ServerEnd, G: Gate<E>>(
 {
     let mut next = relay.pump(BOTH);
     let mut was_clear = false;
-    for _ in 0..MOST_TURNS {
+    for _ in 0..MAX_TURNS {
         let is_clear = relay.is_clear();
         let ready = match next {
             Next::Again => more(relay, gate, was_clear & is_clear),

@@ -4,7 +4,7 @@ ghost use Rattle.pool_serve.specs.Secrets as spec;
 
 use ini_config::AuthType;
 use log_lines::notes::LoginFailure;
-use scram::server_messages::MOST_ROUNDS;
+use scram::server_messages::MAX_ROUNDS;
 use user_file::Secret;
 
 /// Why nobody can log in by this secret who is asked so, whatever is given: it is no secret, or an MD5 digest where SCRAM is asked for, or a
@@ -18,7 +18,7 @@ pub fn uselessness(auth_type: AuthType, secret: &Secret) -> Option<LoginFailure>
         (Secret::Unusable, _) => Some(LoginFailure::NoSecret),
         (Secret::Md5(_), AuthType::ScramSha256) => Some(LoginFailure::Digest),
         (Secret::Scram(verifier), AuthType::Plain) => {
-            if verifier.rounds <= MOST_ROUNDS {
+            if verifier.rounds <= MAX_ROUNDS {
                 return None;
             }
             Some(LoginFailure::Rounds)

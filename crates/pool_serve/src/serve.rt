@@ -36,7 +36,7 @@ use relay_flow::buffers::Buffers;
 use server_end::gate::Gate;
 use server_end::{ClientEnd, ServerEnd};
 use std::alloc::Global;
-use time_limits::{CLIENT_TURNS, MOST_TURNS};
+use time_limits::{CLIENT_TURNS, MAX_TURNS};
 
 /// Goes on with a login until it has arrived, is let in or is over; or until its time is over, whatever came meanwhile, or nothing has
 /// moved for so many turns of the client, if `most` says how many. A turn is taken only where nothing moved.
@@ -52,7 +52,7 @@ fn drive_login<C: ClientEnd, E: ServerEnd, G: Gate<E>>(
     ensures stopped { HasStopped run.new result }
 {
     let mut waited: u32 = 0;
-    for _ in 0..MOST_TURNS {
+    for _ in 0..MAX_TURNS {
         if gate.is_late() {
             return LoginTurn::Over;
         }

@@ -34,7 +34,7 @@ use std::test::Fail;
 const CUT: usize = 16;
 
 /// An end has fewer calls than this.
-const MOST_CALLS: u64 = 400;
+const MAX_CALLS: u64 = 400;
 
 /// Whether these are whole messages of a server.
 fn are_whole(bytes: &[u8]) -> bool {
@@ -252,7 +252,7 @@ fn faults<R: Wait + Clock + Drop + Copy>(
     alloc: Global,
     is_server: bool,
 ) -> Result<u64, Fail> {
-    for call in 1..MOST_CALLS {
+    for call in 1..MAX_CALLS {
         if is_good(rt, alloc, is_server, call)? {
             return Ok(call - 1);
         }

@@ -7,7 +7,7 @@ ghost use Rattle.login_core.specs.Logins.{AwaitsPacket};
 ghost use Rattle.pool_tests.specs.Words.{key_word};
 
 use arrayvec::ArrayString;
-use book_model::limits::{Limits, MOST_CLIENTS};
+use book_model::limits::{Limits, MAX_CLIENTS};
 use book_model::rows::{Row, Rows};
 use desk_tallies::ledgers::Ledgers;
 use desk_tallies::passes::Pass;
@@ -112,7 +112,7 @@ fn rows(alloc: Global, size: u32) -> Result<Rows, AllocError> {
 /// Limits of so many clients and pools of so many links, a wait of 5 seconds, a lifetime of 3,600 and an idle timeout of 600.
 pub fn limits(alloc: Global, clients: u32, pool: u32) -> Result<Arc<Limits>, AllocError> {
     let limits = Limits {
-        max_client_conn: clients.min(MOST_CLIENTS),
+        max_client_conn: clients.min(MAX_CLIENTS),
         max_links: 100,
         default_pool_size: pool,
         query_wait_timeout: 5,

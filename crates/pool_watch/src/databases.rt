@@ -8,7 +8,7 @@ use std::alloc::{AllocError, Global};
 
 /// So many names that no row of the settings bears have figures of their own; what goes through others is summed under `*`. So nobody who
 /// may log in fills the memory with names.
-const MOST_UNLISTED: usize = 1_000;
+const MAX_UNLISTED: usize = 1_000;
 
 /// The name of the row that serves databases of other names.
 const WILDCARD: &[u8] = b"*";
@@ -80,7 +80,7 @@ impl Databases {
 
     /// The name under which a database's figures are summed.
     fn name_for<'n>(&self, name: &'n [u8], is_listed: bool) -> &'n [u8] {
-        if is_listed || self.unlisted < MOST_UNLISTED {
+        if is_listed || self.unlisted < MAX_UNLISTED {
             return name;
         }
         match self.by_name.get(name) {

@@ -15,7 +15,7 @@ use tcp_notes::sight::Sight;
 use user_file::Users;
 
 /// So many seats are copied in one hold of the table's lock: who comes or goes waits for no more of them.
-const MOST_AT_ONCE: usize = 256;
+const MAX_AT_ONCE: usize = 256;
 
 #[derive(Drop)]
 struct Table {
@@ -174,12 +174,12 @@ impl<R: Wait + Clock> Watch<R> {
         let table = self.table.lock(&self.rt);
         let copied = present.seats.len();
         let left = table.copied_before.saturating_sub(copied);
-        for further in 0..left.min(MOST_AT_ONCE) {
+        for further in 0..left.min(MAX_AT_ONCE) {
             if let Some((_, seat)) = table.seats.get_index(copied.saturating_add(further)) {
                 present.seats.push(Arc::try_clone(seat)?)?;
             }
         }
-        Ok(left > MOST_AT_ONCE)
+        Ok(left > MAX_AT_ONCE)
     }
 
     /// Nobody's seat is kept for its place any more; whether there are some left whose clients have left meanwhile.
@@ -187,7 +187,7 @@ impl<R: Wait + Clock> Watch<R> {
     fn end_copy(&self) -> bool {
         let mut table = self.table.lock(&self.rt);
         table.copied_before = 0;
-        for _ in 0..MOST_AT_ONCE {
+        for _ in 0..MAX_AT_ONCE {
             let Some(id) = table.left.pop() else {
                 return false;
             };

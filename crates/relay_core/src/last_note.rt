@@ -8,13 +8,13 @@ use relay_flow::flow::{Flow, Passed};
 use std::marker::Model;
 
 /// The longest message that is kept.
-pub const LONGEST_NOTE: usize = 512;
+pub const MAX_NOTE: usize = 512;
 
 /// The last ErrorResponse or NoticeResponse that came over a link: the whole message. It is empty where none came, and where the last was
-/// longer than [`LONGEST_NOTE`]; of one that went on in parts it is the last part.
+/// longer than [`MAX_NOTE`]; of one that went on in parts it is the last part.
 #[derive(Drop)]
 pub struct LastNote {
-    message: ArrayVec<u8, LONGEST_NOTE>,
+    message: ArrayVec<u8, MAX_NOTE>,
 }
 
 impl Model for LastNote {

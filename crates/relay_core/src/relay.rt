@@ -1,6 +1,6 @@
 //! One lease: a client's end, a link, and the bytes between them.
 ghost use Rattle.std.specs.Prelude.{◌≡◌, ◌≢◌, ◌≤◌, ◌<◌, ◌+◌, ◌&&◌, ◌⊎◌, drop, length, true, false, IfErr, IfOk, IsSome, None, Some};
-ghost use Rattle.frame_view.specs.declared.frames.TheConstants.{LONGEST_FRAME};
+ghost use Rattle.frame_view.specs.declared.frames.TheConstants.{MAX_FRAME};
 
 use crate::answers::phase_after;
 use crate::flags::none_moved;
@@ -110,7 +110,7 @@ impl<C: ClientEnd, E: ServerEnd> Relay<C, E> {
         limit: u32,
     ) -> Result<Relay<C, E>, (C, CleanLink<E>)>
         requires low { 4 ≤ limit }
-        requires high { limit ≤ LONGEST_FRAME }
+        requires high { limit ≤ MAX_FRAME }
         ensures begun { IfOk result (IsLease (place (C.facts client) link word limit)) }
         ensures client { IfOk result (λ r. r.client ≡ C.facts client) }
         ensures link { IfOk result (λ r. r.link ≡ link.stands) }
@@ -135,7 +135,7 @@ impl<C: ClientEnd, E: ServerEnd> Relay<C, E> {
         kept: &mut Option<Buffers>,
     ) -> Result<Relay<C, E>, (C, CleanLink<E>)>
         requires low { 4 ≤ limit }
-        requires high { limit ≤ LONGEST_FRAME }
+        requires high { limit ≤ MAX_FRAME }
         ensures begun { IfOk result (IsLease (place (C.facts client) link word limit)) }
         ensures client { IfOk result (λ r. r.client ≡ C.facts client) }
         ensures link { IfOk result (λ r. r.link ≡ link.stands) }

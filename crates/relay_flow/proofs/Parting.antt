@@ -10,7 +10,7 @@ use Rattle.frame_view.specs.Frames.{AreBytes, FrameOf, is_type, Front, front, wi
 use Rattle.frame_view.proofs.FourBytes.{bytes-number, number-bytes}
 use Rattle.frame_view.specs.declared.server.TheConstants.{READY_FOR_QUERY, PARAMETER_STATUS}
 use Rattle.relay_flow.specs.declared.parts.Advance.{Advance}
-use Rattle.relay_flow.specs.declared.parts.TheConstants.{READY_LENGTH, LONGEST_STATUS}
+use Rattle.relay_flow.specs.declared.parts.TheConstants.{READY_LENGTH, MAX_STATUS}
 use Rattle.relay_flow.specs.Parts.{goes_whole, byte_in, status_in, is_foreign, is_foreign_in_parts, Begins, Opens, Spells, Advances}
 
 abbrev advance : ℕ → ℕ → ℕ → Option ℕ → Bool → Advance
@@ -45,13 +45,13 @@ foreign_in_parts false one true long true e h = absurd (true≢false h)
 foreign_in_parts false one true long false e h = sym e
 foreign_in_parts false one false long short e h = refl
 
-long_is : (n : ℕ) (s : Bool) → nat_le (4 + n) (4 + LONGEST_STATUS) ≡ s → nat_lt LONGEST_STATUS n ≡ not s
-long_is n true e = le-ltb LONGEST_STATUS n (omega (arith, leb-true (4 + n) (4 + LONGEST_STATUS) e))
-long_is n false e = lt-ltb LONGEST_STATUS n (omega (arith, leb-false (4 + n) (4 + LONGEST_STATUS) e))
+long_is : (n : ℕ) (s : Bool) → nat_le (4 + n) (4 + MAX_STATUS) ≡ s → nat_lt MAX_STATUS n ≡ not s
+long_is n true e = le-ltb MAX_STATUS n (omega (arith, leb-true (4 + n) (4 + MAX_STATUS) e))
+long_is n false e = lt-ltb MAX_STATUS n (omega (arith, leb-false (4 + n) (4 + MAX_STATUS) e))
 
 status_by : (a : Bool) (kind : ℕ) (body : List ℕ) → (kind == READY_FOR_QUERY) ≡ a → goes_whole Server kind (4 + length body) ≡ false → None ≡ (if a then byte_in body else None)
 status_by false kind body e h = refl
-status_by true kind body e h = sym (not_one body (one-false (4 + length body == READY_LENGTH) (kind == PARAMETER_STATUS && nat_le (4 + length body) (4 + LONGEST_STATUS)) (ap (λ (a : Bool). (a && (4 + length body == READY_LENGTH)) || (kind == PARAMETER_STATUS && nat_le (4 + length body) (4 + LONGEST_STATUS))) (sym e) ∙ h)))
+status_by true kind body e h = sym (not_one body (one-false (4 + length body == READY_LENGTH) (kind == PARAMETER_STATUS && nat_le (4 + length body) (4 + MAX_STATUS)) (ap (λ (a : Bool). (a && (4 + length body == READY_LENGTH)) || (kind == PARAMETER_STATUS && nat_le (4 + length body) (4 + MAX_STATUS))) (sym e) ∙ h)))
   where
     one-false : (x y : Bool) → (x || y) ≡ false → x ≡ false
     one-false true y e = absurd (true≢false e)
@@ -63,8 +63,8 @@ in_parts-status side kind body e h = status_by (kind == READY_FOR_QUERY) kind bo
 in_parts-foreign : (side : Side) (kind : ℕ) (body : List ℕ) → side ≡ Server → goes_whole side kind (4 + length body) ≡ false → is_foreign_in_parts side kind ≡ is_foreign (a_frame kind body)
 in_parts-foreign side kind body e h =
     ap (λ (s : Side). is_foreign_in_parts s kind) e
-    ∙ foreign_in_parts (kind == READY_FOR_QUERY) (4 + length body == READY_LENGTH) (kind == PARAMETER_STATUS) (nat_lt LONGEST_STATUS (length body)) (nat_le (4 + length body) (4 + LONGEST_STATUS)) (long_is (length body) (nat_le (4 + length body) (4 + LONGEST_STATUS)) refl) (ap (λ (s : Side). goes_whole s kind (4 + length body)) (sym e) ∙ h)
-    ∙ ap (λ (b : Bool). foreign_by (kind == READY_FOR_QUERY) b (kind == PARAMETER_STATUS) (nat_lt LONGEST_STATUS (length body))) (sym (one_is (length body)))
+    ∙ foreign_in_parts (kind == READY_FOR_QUERY) (4 + length body == READY_LENGTH) (kind == PARAMETER_STATUS) (nat_lt MAX_STATUS (length body)) (nat_le (4 + length body) (4 + MAX_STATUS)) (long_is (length body) (nat_le (4 + length body) (4 + MAX_STATUS)) refl) (ap (λ (s : Side). goes_whole s kind (4 + length body)) (sym e) ∙ h)
+    ∙ ap (λ (b : Bool). foreign_by (kind == READY_FOR_QUERY) b (kind == PARAMETER_STATUS) (nat_lt MAX_STATUS (length body))) (sym (one_is (length body)))
 
 -- ---- from inside a frame
 

@@ -7,13 +7,13 @@ use Rattle.frame_view.specs.declared.FrameError.{FrameError}
 use Rattle.frame_view.specs.declared.server.TheConstants.{PARAMETER_STATUS, READY_FOR_QUERY}
 use Rattle.frame_view.specs.Frames.{FrameOf, IsFrame, is_type, spelling, Front, AFrame, Lacks, Faulty, front}
 use Rattle.relay_flow.specs.declared.parts.Advance.{Advance}
-use Rattle.relay_flow.specs.declared.parts.TheConstants.{READY_LENGTH, LONGEST_STATUS}
+use Rattle.relay_flow.specs.declared.parts.TheConstants.{READY_LENGTH, MAX_STATUS}
 
 -- A server's frame of this type and length of which nothing goes on before it is whole: a ReadyForQuery
 -- of length 5, and a ParameterStatus with a body of at most 4,096 bytes.
 abbrev pub goes_whole : Side → ℕ → ℕ → Bool
 goes_whole Client kind len = false
-goes_whole Server kind len = (kind == READY_FOR_QUERY && len == READY_LENGTH) || (kind == PARAMETER_STATUS && nat_le len (4 + LONGEST_STATUS))
+goes_whole Server kind len = (kind == READY_FOR_QUERY && len == READY_LENGTH) || (kind == PARAMETER_STATUS && nat_le len (4 + MAX_STATUS))
 
 abbrev pub byte_in : List ℕ → Option ℕ
 byte_in (b ∷ []) = Some b
@@ -25,7 +25,7 @@ status_in f = if f.kind == READY_FOR_QUERY then byte_in f.body else None
 
 -- a server's frame that no session sends: a ReadyForQuery of another length, a longer ParameterStatus
 abbrev pub is_foreign : FrameOf → Bool
-is_foreign f = (f.kind == READY_FOR_QUERY && not (length f.body == 1)) || (f.kind == PARAMETER_STATUS && nat_lt LONGEST_STATUS (length f.body))
+is_foreign f = (f.kind == READY_FOR_QUERY && not (length f.body == 1)) || (f.kind == PARAMETER_STATUS && nat_lt MAX_STATUS (length f.body))
 
 -- the same of a frame that goes on in parts
 abbrev pub is_foreign_in_parts : Side → ℕ → Bool

@@ -37,7 +37,7 @@ pub const HEAD: usize = 5;
 pub const READY_LENGTH: usize = 5;
 
 /// The greatest body of a ParameterStatus that a session sends.
-pub const LONGEST_STATUS: usize = 4096;
+pub const MAX_STATUS: usize = 4096;
 
 /// Whether nothing of a frame of this type and length goes on before it is whole.
 fn goes_on_whole(side: Side, kind: u8, length: usize) -> bool
@@ -46,7 +46,7 @@ fn goes_on_whole(side: Side, kind: u8, length: usize) -> bool
     match side {
         Side::Client => false,
         Side::Server => (kind == READY_FOR_QUERY && length == READY_LENGTH)
-            || (kind == PARAMETER_STATUS && length <= 4 + LONGEST_STATUS),
+            || (kind == PARAMETER_STATUS && length <= 4 + MAX_STATUS),
     }
 }
 
@@ -68,7 +68,7 @@ fn is_foreign(kind: u8, body: &[u8]) -> bool
     ensures { result ≡ is_foreign (record { kind = kind; body = body.now }) }
 {
     (kind == READY_FOR_QUERY && body.len() != 1)
-        || (kind == PARAMETER_STATUS && body.len() > LONGEST_STATUS)
+        || (kind == PARAMETER_STATUS && body.len() > MAX_STATUS)
 }
 
 /// The same of a frame that goes on in parts: none of these is whole at once.

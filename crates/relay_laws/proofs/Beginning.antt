@@ -6,7 +6,7 @@ use Rattle.disposal.specs.Tallies.{Tells}
 use Rattle.frame_view.specs.declared.Side.{Side}
 use Rattle.frame_view.specs.declared.Side.TheVariants.{Client, Server}
 use Rattle.frame_view.specs.Frames.{spelling}
-use Rattle.frame_view.specs.declared.frames.TheConstants.{LONGEST_FRAME}
+use Rattle.frame_view.specs.declared.frames.TheConstants.{MAX_FRAME}
 use Rattle.message_view.specs.declared.KeyWord.{KeyWord}
 use Rattle.message_view.specs.declared.views.KeyView.{KeyView}
 use Rattle.session_values.specs.declared.cause.Cause.{Cause}
@@ -27,7 +27,7 @@ use Rattle.relay_laws.proofs.Flowing.{no_opens}
 
 -- ---- the beginning
 
-empty_flow : (s : Side) (lm : ℕ) (f : FlowView) → 4 ≤ lm → lm ≤ LONGEST_FRAME → IsEmptyFlow s lm f → IsFlow s f
+empty_flow : (s : Side) (lm : ℕ) (f : FlowView) → 4 ≤ lm → lm ≤ MAX_FRAME → IsEmptyFlow s lm f → IsFlow s f
 empty_flow s lm f low high x = record { side_is = x.side_is; low = rw x.limit_is low; high = rw x.limit_is high; ended = rw x.ends tt }
 
 abbrev link_of : Standing → StartKeyOf → ℕ → ℕ → Option KeyView → List Kept → LinkView
@@ -45,7 +45,7 @@ clean_greets l k sk ks w c f s e =
     ∙ ap (λ (t : State). flat_map spelling (welcome t w.pid w.secret)) (same_session (fresh l.server.catalogue k) z s x.stands.is_fresh e)
 
 lease_begun : (cf : ClientFacts) (l : Standing) (k : StartKeyOf) (n b : ℕ) (sk : Option KeyView) (w : KeyWord) (tl tc : FlowView) (t : Told) (ph : Phase) (lm : ℕ)
-    → IsClean l k sk t.reports → 4 ≤ lm → lm ≤ LONGEST_FRAME → IsEmptyFlow Client lm tl → IsEmptyFlow Server lm tc → Tells t.tally [] []
+    → IsClean l k sk t.reports → 4 ≤ lm → lm ≤ MAX_FRAME → IsEmptyFlow Client lm tl → IsEmptyFlow Server lm tc → Tells t.tally [] []
     → IsLease (place cf (link_of l k n b sk t.reports) w lm) (relay_view cf l k n b sk w (greeting_of t.reports w) tl tc t (flags_of false false false false) ph)
 lease_begun cf l k n b sk w tl tc t ph lm c low high x y z = record {
   sent = [];
@@ -95,7 +95,7 @@ link_is lk l k n b sk ks e d f g s r = rw (e, d, f, g, s, r) refl
 -- A lease of this link begins, whose client is to be given what its reports tell.
 pub lease_begun_at : (lk : LinkView) (cf : ClientFacts) (l : Standing) (k : StartKeyOf) (n b : ℕ) (sk : Option KeyView) (w : KeyWord) (gr : List ℕ) (tl tc : FlowView) (t : Told) (ph : Phase) (lm : ℕ)
     → l ≡ lk.stands → k ≡ lk.key → n ≡ lk.number → b ≡ lk.born → sk ≡ lk.server_key → t.reports ≡ lk.reports → gr ≡ greeting_of lk.reports w
-    → IsClean l k sk t.reports → 4 ≤ lm → lm ≤ LONGEST_FRAME → IsEmptyFlow Client lm tl → IsEmptyFlow Server lm tc → Tells t.tally [] []
+    → IsClean l k sk t.reports → 4 ≤ lm → lm ≤ MAX_FRAME → IsEmptyFlow Client lm tl → IsEmptyFlow Server lm tc → Tells t.tally [] []
     → IsLease (place cf lk w lm) (relay_view cf l k n b sk w gr tl tc t (flags_of false false false false) ph)
 lease_begun_at lk cf l k n b sk w gr tl tc t ph lm e d f h s r g c low high x y z =
     subst (λ (a : List ℕ). IsLease (place cf lk w lm) (relay_view cf l k n b sk w a tl tc t (flags_of false false false false) ph)) (ap (λ (ks : List Kept). greeting_of ks w) r ∙ sym g)

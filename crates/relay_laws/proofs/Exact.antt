@@ -3,7 +3,7 @@ use Rattle.std.proofs.Common.{◌≡◌, ℕ, true, false, List, [], ◌∷◌, 
 use Rattle.std.specs.List.{AllByRecursion}
 use Rattle.frame_view.specs.declared.Side.{Side}
 use Rattle.frame_view.specs.Frames.{FrameOf, Stops, front}
-use Rattle.frame_view.specs.declared.frames.TheConstants.{LONGEST_FRAME}
+use Rattle.frame_view.specs.declared.frames.TheConstants.{MAX_FRAME}
 use Rattle.session_laws.specs.Laws.{IsSent}
 use Rattle.link_laws.specs.Leases as lease
 use Rattle.link_laws.specs.Leases.{Lease, IsUnderWay, IsFront}
@@ -42,7 +42,7 @@ under_way p v x f =
       clean = c;
       moves = x.moves;
       sent = all-sent v.to_link.limit x.forwarded x.goes.went;
-      in_part = subst (λ (s : Side). Stops (front s LONGEST_FRAME x.tail)) x.goes.flow.side_is (opens_stops v.to_link.side v.to_link.limit LONGEST_FRAME x.tail v.to_link.kind v.to_link.rest x.goes.flow.high (omega arith) x.goes.opens);
+      in_part = subst (λ (s : Side). Stops (front s MAX_FRAME x.tail)) x.goes.flow.side_is (opens_stops v.to_link.side v.to_link.limit MAX_FRAME x.tail v.to_link.kind v.to_link.rest x.goes.flow.high (omega arith) x.goes.opens);
       on_way = x.goes.on_way;
       out = x.comes.out ∙ ap (λ (g : List ℕ). g ++ x.received) (x.greets f c.session c.is_fresh);
     }

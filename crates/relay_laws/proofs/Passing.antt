@@ -8,7 +8,7 @@ use Rattle.disposal.specs.Laws.{CallsTell}
 use Rattle.frame_view.specs.declared.Side.{Side}
 use Rattle.frame_view.specs.declared.Side.TheVariants.{Client, Server}
 use Rattle.frame_view.specs.Frames.{AreBytes, FrameOf, IsFrame, spelling}
-use Rattle.frame_view.specs.declared.frames.TheConstants.{LONGEST_FRAME}
+use Rattle.frame_view.specs.declared.frames.TheConstants.{MAX_FRAME}
 use Rattle.frame_view.specs.declared.client.TheConstants.{TERMINATE}
 use Rattle.message_view.specs.declared.KeyWord.{KeyWord}
 use Rattle.message_view.specs.declared.views.KeyView.{KeyView}
@@ -47,7 +47,7 @@ bytes_behind (x ∷ xs) ys h = bytes_behind xs ys (λ j. h (suc j))
 body_bytes : (f : FrameOf) → AreBytes (spelling f) → AreBytes f.body
 body_bytes f h = (bytes_behind (Rattle.std.specs.Int.to_be_bytes Rattle.std.specs.Int.w32 (4 + length f.body)) f.body (λ j. h (suc j)))
 
-forwarded : (limit limit2 : ℕ) (side : Side) (bytes : List ℕ) (kind : ℕ) (status : Option ℕ) (foreign : Bool) (s : Spells side limit bytes kind status foreign) → side ≡ Client → limit2 ≡ limit → limit ≤ LONGEST_FRAME → AreBytes bytes → (side ≡ Client → kind ≢ TERMINATE) → IsForwarded limit2 s.frame
+forwarded : (limit limit2 : ℕ) (side : Side) (bytes : List ℕ) (kind : ℕ) (status : Option ℕ) (foreign : Bool) (s : Spells side limit bytes kind status foreign) → side ≡ Client → limit2 ≡ limit → limit ≤ MAX_FRAME → AreBytes bytes → (side ≡ Client → kind ≢ TERMINATE) → IsForwarded limit2 s.frame
 forwarded limit limit2 side bytes kind status foreign s d e h a g =
     let u : IsFrame Client limit s.frame = subst (λ (x : Side). IsFrame x limit s.frame) d s.is_frame in
     record {
@@ -56,7 +56,7 @@ forwarded limit limit2 side bytes kind status foreign s d e h a g =
       goes_on = λ q. g d (sym s.kind_is ∙ q);
     }
 
-arrived : (limit : ℕ) (side : Side) (bytes : List ℕ) (kind : ℕ) (status : Option ℕ) (foreign : Bool) (s : Spells side limit bytes kind status foreign) → side ≡ Server → limit ≤ LONGEST_FRAME → IsFrame Server LONGEST_FRAME s.frame
+arrived : (limit : ℕ) (side : Side) (bytes : List ℕ) (kind : ℕ) (status : Option ℕ) (foreign : Bool) (s : Spells side limit bytes kind status foreign) → side ≡ Server → limit ≤ MAX_FRAME → IsFrame Server MAX_FRAME s.frame
 arrived limit side bytes kind status foreign s d h =
     let u : IsFrame Server limit s.frame = subst (λ (x : Side). IsFrame x limit s.frame) d s.is_frame in
     record { of_type = u.of_type; size = omega (arith, u.size, h) }
@@ -187,7 +187,7 @@ lease_whole_client p cf l k n b sk w gr tl tc td t u fs ph ps own law o y h e r 
     client_side p cf l k n b sk w gr tl tc t fs ph x td u (x.arrived ++ s.frame ∷ []) [] y.limit (record {
       flow = flow_open Server tc td y.side y.limit y.ends o x.comes.flow;
       opens = no_opens td (y.border h);
-      came = all-append (IsFrame Server LONGEST_FRAME) x.arrived (s.frame ∷ []) x.comes.came (arrived tc.limit tc.side (x.front ++ y.bytes) ps.kind ps.status ps.is_foreign s x.comes.flow.side_is x.comes.flow.high, tt);
+      came = all-append (IsFrame Server MAX_FRAME) x.arrived (s.frame ∷ []) x.comes.came (arrived tc.limit tc.side (x.front ++ y.bytes) ps.kind ps.status ps.is_foreign s x.comes.flow.side_is x.comes.flow.high, tt);
       given = x.comes.given;
       out = cc (x.comes.out, y.held, y.part, append_assoc tc.held y.bytes td.part);
       whole = cc (x.comes.whole, y.part, append_assoc x.front y.bytes td.part, append_assoc (flat_map spelling x.arrived) (spelling s.frame) td.part, s.spelled, more_frames x.arrived s.frame);

@@ -27,7 +27,7 @@ use Rattle.session_run_laws.proofs.ByName.{run_replies_are_frames, run_reports_t
 use Rattle.session_laws.specs.Laws.{Reaches, after_replies}
 use Rattle.param_track.specs.Kept.{Kept}
 use Rattle.frame_view.specs.declared.Side.TheVariants.{Server}
-use Rattle.frame_view.specs.declared.frames.TheConstants.{LONGEST_FRAME}
+use Rattle.frame_view.specs.declared.frames.TheConstants.{MAX_FRAME}
 use Rattle.session_run_laws.specs.Settling.{IsAnswered}
 use Rattle.link_laws.proofs.ByName.{settled_links_rest}
 use Rattle.relay_laws.proofs.Settling.{Answered, answered_by}
@@ -158,7 +158,7 @@ reported_now p v x f n w r =
     let o : flat_map spelling (run_frames cat s ms i.frames).replies ≡ x.received ++ v.link.outbox =
     sym (ap (λ (t : Stage). flat_map spelling (answers p.stands.server t m.taken)) d.is_open ∙ ap (flat_map spelling) i.replies)
     ∙ ap (λ (b : List ℕ). b ++ flat_map spelling (answers p.stands.server p.stands.stage m.taken)) (sym d.outbox) ∙ m.outbox in
-    let q : SplitsOff (run_frames cat s ms i.frames).replies x.arrived [] v.link.outbox = split_whole Server LONGEST_FRAME (run_frames cat s ms i.frames).replies x.arrived v.link.outbox (omega arith) (run_replies_are_frames cat v.key s ms i.frames reached i.sent) x.comes.came (o ∙ ap (λ (b : List ℕ). b ++ v.link.outbox) w) in
+    let q : SplitsOff (run_frames cat s ms i.frames).replies x.arrived [] v.link.outbox = split_whole Server MAX_FRAME (run_frames cat s ms i.frames).replies x.arrived v.link.outbox (omega arith) (run_replies_are_frames cat v.key s ms i.frames reached i.sent) x.comes.came (o ∙ ap (λ (b : List ℕ). b ++ v.link.outbox) w) in
     let none : q.more ≡ [] = (nothing q.more [] (sym r.idle.outbox ∙ q.bytes)).0 in
     let all : (run_frames cat s ms i.frames).replies ≡ x.arrived = q.all ∙ ap (λ (fs : List FrameOf). x.arrived ++ fs) none ∙ append-nil x.arrived in
     let now : r.session ≡ (run_frames cat s ms i.frames).next = same_state r.session (run_frames cat s ms i.frames).next (sym r.idle.is_open ∙ m.stage ∙ ap (λ (t : Stage). after p.stands.server t m.taken) d.is_open ∙ i.stage) in

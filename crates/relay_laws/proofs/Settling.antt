@@ -18,7 +18,7 @@ use Rattle.link_run.specs.Links.{after_frame, after_frames}
 use Rattle.disposal.specs.Laws.{CallsTell, SettledExactly}
 use Rattle.session_run_laws.specs.Settling.{count, closes, is_ready, last_status, IsAnswered}
 use Rattle.relay_flow.specs.declared.flow.Passed.{Passed}
-use Rattle.relay_flow.specs.declared.parts.TheConstants.{LONGEST_STATUS}
+use Rattle.relay_flow.specs.declared.parts.TheConstants.{MAX_STATUS}
 use Rattle.relay_flow.specs.Parts.{byte_in, is_foreign, status_in}
 use Rattle.relay_laws.specs.Verdicts.{Told, is_own, kept_after, all_kept, or_breaks, or_broken, sent_as, came_as, all_came, begun_arrived, told_sent, told_arrived, Telling}
 
@@ -131,7 +131,7 @@ one_of true false c e k = absurd (true≢false e)
 one_of false b c e k = absurd (false≢true k)
 
 own_ready : (f : FrameOf) → IsUsual f → is_ready f ≡ true → OneByte f.body
-own_ready f own k = one_byte f.body (one_of (f.kind == READY_FOR_QUERY) (length f.body == 1) (f.kind == PARAMETER_STATUS && nat_lt LONGEST_STATUS (length f.body)) own k)
+own_ready f own k = one_byte f.body (one_of (f.kind == READY_FOR_QUERY) (length f.body == 1) (f.kind == PARAMETER_STATUS && nat_lt MAX_STATUS (length f.body)) own k)
 
 abbrev EndsIdle : List FrameOf → Type 0
 EndsIdle fs = (x : Option ℕ) (body : List ℕ) → (x ≡ Some IDLE → body ≡ IDLE ∷ []) → fold status_after x (flat_map own_as fs) ≡ Some IDLE → last_status fs body ≡ IDLE ∷ []
@@ -216,7 +216,7 @@ ends_by true kept f (b ∷ c ∷ body) t long e = subst (λ (one : Bool). may_en
 pub status_may_end : (kept : List Kept) (t : Tally) (p : Passed) (own : Bool) (f : FrameOf) → f.kind ≡ p.kind → p.status ≡ status_in f → own ≡ is_own kept (is_foreign f) f → may_end p.status (begun_arrived p own t) ≡ true
 status_may_end kept t p own f k status o =
     ap₂ (λ (x : Option ℕ) (c : Bool). may_end x (or_broken c (got_begun p.kind t))) status o
-    ∙ subst (λ (n : ℕ). may_end (status_in f) (or_broken (is_own kept (is_foreign f) f) (got_begun n t)) ≡ true) k (ends_by (f.kind == READY_FOR_QUERY) kept f f.body t (f.kind == PARAMETER_STATUS && nat_lt LONGEST_STATUS (length f.body)) refl)
+    ∙ subst (λ (n : ℕ). may_end (status_in f) (or_broken (is_own kept (is_foreign f) f) (got_begun n t)) ≡ true) k (ends_by (f.kind == READY_FOR_QUERY) kept f f.body t (f.kind == PARAMETER_STATUS && nat_lt MAX_STATUS (length f.body)) refl)
 
 came-more : (kept : List Kept) (fs : List FrameOf) (f : FrameOf) → all_came kept (fs ++ f ∷ []) ≡ all_came kept fs ++ came_as (all_kept kept fs) f
 came-more kept [] f = append-nil (came_as kept f)

@@ -4,7 +4,7 @@ use Rattle.std.specs.List.{flat_map, AllByRecursion}
 use Rattle.frame_view.specs.declared.FrameError.{FrameError}
 use Rattle.frame_view.specs.declared.FrameError.TheVariants.{TooShort, TooLong, UnknownType, UnknownCode}
 use Rattle.frame_view.specs.declared.Side.TheVariants.{Server}
-use Rattle.frame_view.specs.declared.frames.TheConstants.{LONGEST_FRAME}
+use Rattle.frame_view.specs.declared.frames.TheConstants.{MAX_FRAME}
 use Rattle.frame_view.specs.Frames.{FrameOf, IsFrame, spelling}
 use Rattle.message_view.specs.declared.refusal.Refusal.{Refusal}
 use Rattle.message_view.specs.declared.refusal.Refusal.TheVariants.{MalformedClientMessage, ClientMessageTooLong, MalformedServerMessage, ServerFailed}
@@ -68,7 +68,7 @@ pub record AtBorder (p : Place) (v : RelayView) : Type 0 where
   pub held : v.to_client.held ≡ []
   pub arrived : List FrameOf
   pub since : List ℕ
-  pub came : AllByRecursion (IsFrame Server LONGEST_FRAME) arrived
+  pub came : AllByRecursion (IsFrame Server MAX_FRAME) arrived
   pub given : v.client.tells ≡ true → v.client.given ≡ p.given ++ since
   pub whole : since ≡ p.greeting ++ flat_map spelling arrived
 

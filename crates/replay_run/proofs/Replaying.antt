@@ -21,7 +21,7 @@ use Rattle.login_core.specs.Dialogue.{Rows, Dialogue, Way, ToConsole, ToLink, Pa
 use Rattle.login_core.specs.Logins.{LoginView, Awaiting, AwaitsPacket, Arriving, Over, after, goes_on, goes_from, login_view, missing, missing_of, question_bytes, rows_of}
 use Rattle.login_core.specs.Solo.{after_login, service_pieces}
 use Rattle.login_laws.specs.Laws.{AreLawfulRows, PassedKeysAreLinkKeys, SettingsRowsAreLawful}
-use Rattle.frame_view.specs.declared.frames.TheConstants.{LONGEST_FRAME}
+use Rattle.frame_view.specs.declared.frames.TheConstants.{MAX_FRAME}
 use Rattle.memory_lease.specs.Answers.{IsAllowed, IsAnswer, IsGiven}
 use Rattle.session_values.specs.Service.{client_frames, served, service}
 use Rattle.memory_lease.proofs.Causes.{was_allowed}
@@ -204,7 +204,7 @@ standing_limit = refl
 
 -- ---- a login that has passed
 
-pub passed_given : (dies : Option ℕ) (cat : CatalogueOf) (key : StartKeyOf) (told rest old greeted new answer : List ℕ) → greeted ≡ old ++ told → IsAnswer dies LONGEST_FRAME rest answer (service_pieces cat key standing_word [] rest) → new ≡ greeted ++ answer
+pub passed_given : (dies : Option ℕ) (cat : CatalogueOf) (key : StartKeyOf) (told rest old greeted new answer : List ℕ) → greeted ≡ old ++ told → IsAnswer dies MAX_FRAME rest answer (service_pieces cat key standing_word [] rest) → new ≡ greeted ++ answer
     → Adds dies cat (record { pieces = told ∷ []; ended = Passed (ToLink key) rest }) old new
 passed_given dies cat key told rest old greeted new answer g a n = record {
   given = told ++ answer;
@@ -240,7 +240,7 @@ none_allowed dies more e = inl (none_given dies more e)
 
 follows_allowed : (dies : Option ℕ) (cat : CatalogueOf) (e : End Way Reason) (more : List ℕ) → Follows dies cat e more → IsAllowed dies more (after_login cat standing_word [] e)
 follows_allowed dies cat Unfinished more f = none_allowed dies more f
-follows_allowed dies cat (Passed (ToLink key) left) more f = was_allowed dies LONGEST_FRAME left more (service_pieces cat key standing_word [] left) f
+follows_allowed dies cat (Passed (ToLink key) left) more f = was_allowed dies MAX_FRAME left more (service_pieces cat key standing_word [] left) f
 follows_allowed dies cat (Passed ToConsole left) more f = none_allowed dies more f
 follows_allowed dies cat (Stopped (Refused cause)) more f = inr (record { given = []; kept = []; pieces_are = refl; cause = cause; out_is = f })
 follows_allowed dies cat (Stopped Failed) more f = none_allowed dies more f

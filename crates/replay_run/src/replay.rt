@@ -2,7 +2,7 @@
 ghost use Rattle.std.specs.Prelude.{◌≡◌, ◌≢◌, ◌⊎◌, ◌<◌, ◌≤◌, ◌++◌, ◌∷◌, [], length, drop, OnOk, OnErr, IfErr, IfOk, IfSome, false};
 ghost use Rattle.std.specs.Arc.{arc_value};
 ghost use Rattle.std.specs.Io.KnownBytes.{Appends};
-ghost use Rattle.frame_view.specs.declared.frames.TheConstants.{LONGEST_FRAME};
+ghost use Rattle.frame_view.specs.declared.frames.TheConstants.{MAX_FRAME};
 ghost use Rattle.message_view.specs.Refusals.{refusal};
 ghost use Rattle.message_view.specs.declared.refusal.Refusal.TheVariants as refused;
 ghost use Rattle.link_start.specs.Starts.{IsLinkKey};
@@ -25,7 +25,7 @@ use memory_ends::memory_server::{MemoryServer, ServerAuth};
 use memory_lease::alone::{ServeError, serve_alone};
 use message_view::{KeyWord, Refusal, refusal_bytes};
 use pool_app::fault::AppError;
-use pool_app::files::{MOST_BYTES, ReadError, read_all};
+use pool_app::files::{MAX_BYTES, ReadError, read_all};
 use session_catalogue::Catalogue;
 use session_machine::solo_bytes;
 use start_keys::StartKey;
@@ -64,7 +64,7 @@ struct Service {
     dies_after: Option<u64>,
     unended: Unended,
     ghost some: { 0 < cut },
-    ghost all: { limit ≡ LONGEST_FRAME },
+    ghost all: { limit ≡ MAX_FRAME },
 }
 
 /// Puts this refusal; there is none where an allocation failed.
@@ -85,7 +85,7 @@ fn answered_by_session(
     key: &StartKey,
     rest: &[u8],
 ) -> Result<BytesMut, AllocError>
-    ensures { IfOk result (λ out. IsAnswer service.now.dies_after LONGEST_FRAME rest.now out.items (service_pieces (arc_value service.now.catalogue) key.now standing_word [] rest.now)) }
+    ensures { IfOk result (λ out. IsAnswer service.now.dies_after MAX_FRAME rest.now out.items (service_pieces (arc_value service.now.catalogue) key.now standing_word [] rest.now)) }
 {
     let mut out = BytesMut::new(alloc);
     solo_bytes(alloc, &service.catalogue, key, KEY_WORD, rest, &mut out)?;
@@ -100,7 +100,7 @@ fn served(
     rest: &[u8],
 ) -> Result<BytesMut, AllocError>
     requires key { IsLinkKey (arc_value key.now) }
-    ensures { IfOk result (λ out. IsAnswer service.now.dies_after LONGEST_FRAME rest.now out.items (service_pieces (arc_value service.now.catalogue) (arc_value key.now) standing_word [] rest.now)) }
+    ensures { IfOk result (λ out. IsAnswer service.now.dies_after MAX_FRAME rest.now out.items (service_pieces (arc_value service.now.catalogue) (arc_value key.now) standing_word [] rest.now)) }
 {
     service.catalogue.is_lawful();
     let catalogue = Arc::try_clone(&service.catalogue)?;
@@ -305,7 +305,7 @@ pub fn replay<'a, R: Read + Drop, W: Write>(
     ensures bound { IfOk result (λ _. IfSome (R.remaining input) (λ xs. length xs ≤ 16777216)) }
     ensures left { IfErr result (λ fault. IsLeft output.old output.new fault) }
 {
-    let bytes = match read_all(alloc, input, MOST_BYTES) {
+    let bytes = match read_all(alloc, input, MAX_BYTES) {
         Ok(bytes) => bytes,
         Err(fault) => return Err(unread(fault)),
     };

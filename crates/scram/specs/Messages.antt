@@ -8,8 +8,8 @@ use Rattle.scram.specs.Verifiers.{salt_in}
 use Rattle.scram.specs.declared.client_messages.First.{First}
 use Rattle.scram.specs.declared.client_messages.Last.{Last}
 use Rattle.scram.specs.declared.server_messages.Challenge.{Challenge}
-use Rattle.scram.specs.declared.server_messages.TheConstants.{MOST_ROUNDS}
-use Rattle.scram.specs.declared.client_messages.TheConstants.{LONGEST_JOINT_NONCE, LONGEST_NONCE}
+use Rattle.scram.specs.declared.server_messages.TheConstants.{MAX_ROUNDS}
+use Rattle.scram.specs.declared.client_messages.TheConstants.{MAX_JOINT_NONCE, MAX_NONCE}
 
 -- ---- the client's first message
 
@@ -28,7 +28,7 @@ abbrev pub is_printing : ℕ → Bool
 is_printing b = nat_le 33 b && nat_le b 126
 
 abbrev pub is_nonce : Text → Bool
-is_nonce text = not (length text == 0) && (nat_le (length text) LONGEST_NONCE && list_all is_printing text)
+is_nonce text = not (length text == 0) && (nat_le (length text) MAX_NONCE && list_all is_printing text)
 
 abbrev pub is_header : Text → Bool
 is_header text = bytes_eq text (codes "n,,") || bytes_eq text (codes "y,,")
@@ -64,7 +64,7 @@ challenge_view x = record { nonce = x.nonce.now; salt = x.salt; rounds = x.round
 -- of a client that sent this nonce: that of both begins with it, and the server adds something
 abbrev pub challenge_with : Text → Text → List ℕ → ℕ → Option ChallengeOf
 challenge_with own nonce salt rounds =
-    if starts_with nat_eq nonce own && (nat_lt (length own) (length nonce) && nat_le (length nonce) LONGEST_JOINT_NONCE) then Some (record { nonce = nonce; salt = salt; rounds = rounds }) else None
+    if starts_with nat_eq nonce own && (nat_lt (length own) (length nonce) && nat_le (length nonce) MAX_JOINT_NONCE) then Some (record { nonce = nonce; salt = salt; rounds = rounds }) else None
 
 unfoldable pub challenge_of : Text → Text → Option ChallengeOf
 challenge_of own text = do
@@ -74,7 +74,7 @@ challenge_of own text = do
   salted ← attribute 115 second.0
   counted ← attribute 105 second.1
   salt ← salt_in salted
-  rounds ← number_between 1 MOST_ROUNDS counted
+  rounds ← number_between 1 MAX_ROUNDS counted
   challenge_with own nonce salt rounds
 
 -- ---- the client's last message

@@ -3,13 +3,13 @@ use Rattle.std.specs.Prelude.{ℕ, List, ◌&&◌, if◌then◌else◌, nat_le, 
 use Rattle.scram.specs.Keys.{Text}
 use Rattle.scram.specs.Texts.{◌>>=◌, behind, split_at_first, number_between, from_base64, key_in}
 use Rattle.scram.specs.declared.verifier.Verifier.{Verifier}
-use Rattle.scram.specs.declared.verifier.TheConstants.{LONGEST_SALT, MOST_ROUNDS_KEPT}
+use Rattle.scram.specs.declared.verifier.TheConstants.{MAX_SALT, MAX_ROUNDS_KEPT}
 
 -- a salt has from one byte to 64
 abbrev pub salt_in : Text → Option (List ℕ)
 salt_in text = do
   bytes ← from_base64 text
-  if nat_le 1 (length bytes) && nat_le (length bytes) LONGEST_SALT then Some bytes else None
+  if nat_le 1 (length bytes) && nat_le (length bytes) MAX_SALT then Some bytes else None
 
 -- `SCRAM-SHA-256$`, the rounds, `:`, the salt, `$`, StoredKey, `:`, ServerKey, the last three in base64
 unfoldable pub verifier_of : Text → Option Verifier
@@ -18,7 +18,7 @@ verifier_of text = do
   rounds ← split_at_first 58 rest
   salt ← split_at_first 36 rounds.1
   keys ← split_at_first 58 salt.1
-  n ← number_between 1 MOST_ROUNDS_KEPT rounds.0
+  n ← number_between 1 MAX_ROUNDS_KEPT rounds.0
   s ← salt_in salt.0
   stored ← key_in keys.0
   server ← key_in keys.1

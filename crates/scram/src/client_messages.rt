@@ -3,17 +3,17 @@ ghost use Rattle.std.specs.Prelude.{◌≡◌, ◌≤◌, ◌++◌, IfOk, IfSome
 ghost use Rattle.std.specs.List.{list_all};
 ghost use Rattle.scram.specs.Messages as spec;
 ghost use Rattle.scram.specs.Short.{text_of};
-ghost use Rattle.scram.specs.declared.client_messages.TheConstants.{LONGEST_JOINT_NONCE, LONGEST_NONCE};
+ghost use Rattle.scram.specs.declared.client_messages.TheConstants.{MAX_JOINT_NONCE, MAX_NONCE};
 
 use crate::message::Message;
 use crate::texts::{attribute, behind, first_part, key_in};
 use std::alloc::{AllocError, Global};
 
 /// The greatest length of a nonce that a client may send, in bytes. Those of libpq have 24, those of other libraries up to 36.
-pub const LONGEST_NONCE: usize = 128;
+pub const MAX_NONCE: usize = 128;
 
 /// The greatest length of the nonce of both, in bytes: the client's, and the server's behind it.
-pub const LONGEST_JOINT_NONCE: usize = 192;
+pub const MAX_JOINT_NONCE: usize = 192;
 
 /// A client's first message, in the parts of it that count.
 #[derive(Clone, Copy, Drop)]
@@ -22,7 +22,7 @@ pub struct First<'a> {
     pub header: &'a [u8],
     /// What follows it: `bare`.
     pub bare: &'a [u8],
-    /// The client's nonce: from 1 to [`LONGEST_NONCE`] printing characters other than a comma.
+    /// The client's nonce: from 1 to [`MAX_NONCE`] printing characters other than a comma.
     pub nonce: &'a [u8],
 }
 
@@ -50,7 +50,7 @@ fn are_printing(text: &[u8]) -> bool
 fn is_nonce(text: &[u8]) -> bool
     ensures { result ≡ spec.is_nonce text.now }
 {
-    !text.is_empty() && (text.len() <= LONGEST_NONCE && are_printing(text))
+    !text.is_empty() && (text.len() <= MAX_NONCE && are_printing(text))
 }
 
 fn is_header(text: &[u8]) -> bool
@@ -64,11 +64,11 @@ impl<'a> First<'a> {
     /// nonce.
     ///
     /// None where it is malformed, wants to bind the channel (`p=`) or to log in as somebody else, has an extension that must be
-    /// understood (`m=`), or a nonce of no byte, of more than [`LONGEST_NONCE`], or of other than printing characters.
+    /// understood (`m=`), or a nonce of no byte, of more than [`MAX_NONCE`], or of other than printing characters.
     #[tactic(auto, unfolding(crate::specs::Messages::first_of))]
     pub fn read(text: &'a [u8]) -> Option<First<'a>>
         ensures value { option_map spec.first_view result ≡ spec.first_of text.now }
-        ensures short { IfSome result (λ x. length x.nonce.now ≤ LONGEST_NONCE) }
+        ensures short { IfSome result (λ x. length x.nonce.now ≤ MAX_NONCE) }
         ensures header { IfSome result (λ x. length x.header.now ≤ 3) }
     {
         if text.len() < 3 {
@@ -96,7 +96,7 @@ impl<'a> First<'a> {
 /// What stands before the proof in a client's last message whose first one had this header, and then these bytes.
 fn unproved(header: &[u8], nonce: &[u8], more: &[u8]) -> Message
     requires header { length header.now ≤ 64 }
-    requires nonce { length nonce.now ≤ LONGEST_JOINT_NONCE }
+    requires nonce { length nonce.now ≤ MAX_JOINT_NONCE }
     requires more { length more.now ≤ 3 }
     ensures value { text_of result ≡ spec.unproved header.now nonce.now ++ more.now }
     ensures short { length (text_of result) ≤ 288 }
@@ -113,7 +113,7 @@ fn unproved(header: &[u8], nonce: &[u8], more: &[u8]) -> Message
 /// Whether a text is what stands before the proof, or goes on from it by further attributes.
 fn goes_on(header: &[u8], nonce: &[u8], text: &[u8]) -> bool
     requires header { length header.now ≤ 64 }
-    requires nonce { length nonce.now ≤ LONGEST_JOINT_NONCE }
+    requires nonce { length nonce.now ≤ MAX_JOINT_NONCE }
     ensures { result ≡ spec.goes_on (spec.unproved header.now nonce.now) text.now }
 {
     text == unproved(header, nonce, b"").as_bytes()
@@ -132,7 +132,7 @@ fn proof_in(alloc: Global, tail: &[u8]) -> Result<Option<[u8; 32]>, AllocError>
 
 impl<'a> Last<'a> {
     /// Reads the last message of a client whose first one had this header, of at most 64 bytes, where the nonce of both is this, of at
-    /// most [`LONGEST_JOINT_NONCE`].
+    /// most [`MAX_JOINT_NONCE`].
     ///
     /// None where it is malformed: where its channel binding (`c=`) isn't that header in base64, its nonce is another, its proof isn't
     /// its last attribute or isn't 32 bytes in base64. Whether the proof is right [`crate::ServerKeys::revealed`] tells. The only error
@@ -145,7 +145,7 @@ impl<'a> Last<'a> {
         text: &'a [u8],
     ) -> Result<Option<Last<'a>>, AllocError>
         requires header { length header.now ≤ 64 }
-        requires nonce { length nonce.now ≤ LONGEST_JOINT_NONCE }
+        requires nonce { length nonce.now ≤ MAX_JOINT_NONCE }
         ensures { IfOk result (λ o. option_map spec.last_view o ≡ spec.last_of header.now nonce.now text.now) }
     {
         let (front, tail) = text.split_at(text.len().saturating_sub(47));
@@ -162,10 +162,10 @@ impl<'a> Last<'a> {
     }
 }
 
-/// The first message of a client with this nonce, of at most [`LONGEST_NONCE`] bytes: it binds no channel, and gives no name, since the
+/// The first message of a client with this nonce, of at most [`MAX_NONCE`] bytes: it binds no channel, and gives no name, since the
 /// StartupMessage has told it. All but its first three bytes are `bare`.
 pub fn first_message(nonce: &[u8]) -> Message
-    requires { length nonce.now ≤ LONGEST_NONCE }
+    requires { length nonce.now ≤ MAX_NONCE }
     ensures { text_of result ≡ spec.first nonce.now }
 {
     let mut message = Message::new();
@@ -174,10 +174,10 @@ pub fn first_message(nonce: &[u8]) -> Message
     message
 }
 
-/// The last message of such a client without its proof, where the nonce of both is this, of at most [`LONGEST_JOINT_NONCE`] bytes:
+/// The last message of such a client without its proof, where the nonce of both is this, of at most [`MAX_JOINT_NONCE`] bytes:
 /// `unproved`.
 pub fn last_unproved(nonce: &[u8]) -> Message
-    requires { length nonce.now ≤ LONGEST_JOINT_NONCE }
+    requires { length nonce.now ≤ MAX_JOINT_NONCE }
     ensures value { text_of result ≡ spec.unproved (codes "n,,") nonce.now }
     ensures short { length (text_of result) ≤ 288 }
 {
@@ -186,7 +186,7 @@ pub fn last_unproved(nonce: &[u8]) -> Message
 
 /// The last message of such a client, with its proof.
 pub fn last_message(nonce: &[u8], proof: &[u8; 32]) -> Message
-    requires { length nonce.now ≤ LONGEST_JOINT_NONCE }
+    requires { length nonce.now ≤ MAX_JOINT_NONCE }
     ensures { text_of result ≡ spec.last nonce.now proof.now }
 {
     let mut message = unproved(b"n,,", nonce, b",p=");

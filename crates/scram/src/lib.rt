@@ -26,6 +26,6 @@ mod writing;
 
 pub use hmac_key::hmac;
 pub use keys::{ClientKeys, ServerKeys};
-pub use message::{LONGEST_MESSAGE, Message};
-pub use verifier::{LONGEST_SALT, MOST_ROUNDS_KEPT, Salt, Verifier};
+pub use message::{MAX_MESSAGE, Message};
+pub use verifier::{MAX_ROUNDS_KEPT, MAX_SALT, Salt, Verifier};
 pub use wire::initial_response;

@@ -3,9 +3,9 @@ ghost use Rattle.std.specs.Prelude.{◌≡◌, ◌+◌, ◌≤◌, ◌++◌, IfO
 ghost use Rattle.scram.specs.Messages as spec;
 ghost use Rattle.scram.specs.Short.{text_of};
 ghost use Rattle.scram.specs.Keys.{auth_message};
-ghost use Rattle.scram.specs.declared.client_messages.TheConstants.{LONGEST_JOINT_NONCE};
+ghost use Rattle.scram.specs.declared.client_messages.TheConstants.{MAX_JOINT_NONCE};
 
-use crate::client_messages::LONGEST_JOINT_NONCE;
+use crate::client_messages::MAX_JOINT_NONCE;
 use crate::keys::signature;
 use crate::message::Message;
 use crate::texts::{attribute, number, split_at_first};
@@ -15,16 +15,16 @@ use sha2::{Digest, Sha256};
 use std::alloc::{AllocError, Global};
 
 /// The most rounds that a server may ask of its client: about a second of a processor. PostgreSQL's default is 4,096.
-pub const MOST_ROUNDS: u32 = 1_000_000;
+pub const MAX_ROUNDS: u32 = 1_000_000;
 
 /// A server's challenge.
 #[derive(Drop)]
 pub struct Challenge<'a> {
-    /// The nonce of both: the client's, and at least one byte behind it, of at most [`LONGEST_JOINT_NONCE`] bytes.
+    /// The nonce of both: the client's, and at least one byte behind it, of at most [`MAX_JOINT_NONCE`] bytes.
     pub nonce: &'a [u8],
     /// From one byte to 64.
     pub salt: Salt,
-    /// From 1 to [`MOST_ROUNDS`].
+    /// From 1 to [`MAX_ROUNDS`].
     pub rounds: u32,
 }
 
@@ -32,8 +32,8 @@ impl<'a> Challenge<'a> {
     /// Reads the challenge of a client that sent this nonce.
     ///
     /// None where it is malformed or has an extension, where its nonce doesn't begin with the client's, adds nothing to it, or is longer
-    /// than [`LONGEST_JOINT_NONCE`], where its salt has no byte or more than 64, or isn't in the one spelling of base64, or where it asks
-    /// for 0 rounds or more than [`MOST_ROUNDS`]. The only error is out of memory.
+    /// than [`MAX_JOINT_NONCE`], where its salt has no byte or more than 64, or isn't in the one spelling of base64, or where it asks
+    /// for 0 rounds or more than [`MAX_ROUNDS`]. The only error is out of memory.
     #[tactic(auto, unfolding(crate::specs::Messages::challenge_of))]
     pub fn read(
         alloc: Global,
@@ -41,7 +41,7 @@ impl<'a> Challenge<'a> {
         text: &'a [u8],
     ) -> Result<Option<Challenge<'a>>, AllocError>
         ensures value { IfOk result (λ o. option_map spec.challenge_view o ≡ spec.challenge_of own.now text.now) }
-        ensures short { IfOk result (λ o. IfSome o (λ x. length x.nonce.now ≤ LONGEST_JOINT_NONCE)) }
+        ensures short { IfOk result (λ o. IfSome o (λ x. length x.nonce.now ≤ MAX_JOINT_NONCE)) }
     {
         let Some((nonce, rest)) = split_at_first(text, b',') else {
             return Ok(None);
@@ -61,13 +61,13 @@ impl<'a> Challenge<'a> {
         let Some(salt) = salt_in(alloc, salted)? else {
             return Ok(None);
         };
-        let Some(rounds) = number(counted, 1, MOST_ROUNDS) else {
+        let Some(rounds) = number(counted, 1, MAX_ROUNDS) else {
             return Ok(None);
         };
         if !nonce.starts_with(own) {
             return Ok(None);
         }
-        if nonce.len() <= own.len() || nonce.len() > LONGEST_JOINT_NONCE {
+        if nonce.len() <= own.len() || nonce.len() > MAX_JOINT_NONCE {
             return Ok(None);
         }
         Ok(Some(Challenge {
@@ -78,9 +78,9 @@ impl<'a> Challenge<'a> {
     }
 }
 
-/// The challenge to a client with this nonce, to which the server adds its own; both together have at most [`LONGEST_JOINT_NONCE`] bytes.
+/// The challenge to a client with this nonce, to which the server adds its own; both together have at most [`MAX_JOINT_NONCE`] bytes.
 pub fn challenge_message(client: &[u8], own: &[u8], salt: &Salt, rounds: u32) -> Message
-    requires { length client.now + length own.now ≤ LONGEST_JOINT_NONCE }
+    requires { length client.now + length own.now ≤ MAX_JOINT_NONCE }
     ensures value { text_of result ≡ spec.challenge (client.now ++ own.now) salt.now rounds }
     ensures short { length (text_of result) ≤ 328 }
 {

@@ -2,7 +2,7 @@
 ghost use Rattle.std.specs.Prelude.{◌≡◌, ◌+◌, ◌≤◌, ◌++◌, [], length, decimal};
 ghost use Rattle.scram.specs.Short.{text_of};
 ghost use Rattle.scram.specs.Texts.{base64};
-ghost use Rattle.scram.specs.declared.message.TheConstants.{LONGEST_MESSAGE};
+ghost use Rattle.scram.specs.declared.message.TheConstants.{MAX_MESSAGE};
 
 use crate::message::Message;
 use base64::engine::general_purpose::STANDARD;
@@ -29,7 +29,7 @@ impl Message {
 
     /// Adds a text, for which there must be room.
     pub fn push(&mut self, text: &[u8])
-        requires { length (text_of self.old) + length text.now ≤ LONGEST_MESSAGE }
+        requires { length (text_of self.old) + length text.now ≤ MAX_MESSAGE }
         ensures text { text_of self.new ≡ text_of self.old ++ text.now }
         ensures longer { length (text_of self.new) ≡ length (text_of self.old) + length text.now }
     {
@@ -41,7 +41,7 @@ impl Message {
     /// Adds at most 64 bytes in base64, for which there must be room.
     pub(crate) fn push_base64(&mut self, bytes: &[u8])
         requires short { length bytes.now ≤ 64 }
-        requires room { length (text_of self.old) + 88 ≤ LONGEST_MESSAGE }
+        requires room { length (text_of self.old) + 88 ≤ MAX_MESSAGE }
         ensures text { text_of self.new ≡ text_of self.old ++ base64 bytes.now }
         ensures longer { length (text_of self.new) ≤ length (text_of self.old) + 88 }
     {
@@ -54,7 +54,7 @@ impl Message {
 
     /// Adds a number in decimal digits, for which there must be room.
     pub(crate) fn push_number(&mut self, number: u32)
-        requires { length (text_of self.old) + 40 ≤ LONGEST_MESSAGE }
+        requires { length (text_of self.old) + 40 ≤ MAX_MESSAGE }
         ensures text { text_of self.new ≡ text_of self.old ++ decimal number }
         ensures longer { length (text_of self.new) ≤ length (text_of self.old) + 40 }
     {

@@ -4,15 +4,15 @@ use hex::FromHexError;
 use itoa::Buffer;
 use sasl_prep::prepared;
 use scram::client_messages::{
-    First, LONGEST_JOINT_NONCE, LONGEST_NONCE, Last, first_message, last_message, last_unproved,
+    First, Last, MAX_JOINT_NONCE, MAX_NONCE, first_message, last_message, last_unproved,
 };
 use scram::keys::salted;
 use scram::server_messages::{Challenge, challenge_message, final_message, nonce};
-use scram::{ClientKeys, LONGEST_SALT, Salt, ServerKeys, Verifier, hmac, initial_response};
+use scram::{ClientKeys, MAX_SALT, Salt, ServerKeys, Verifier, hmac, initial_response};
 use std::alloc::{AllocError, Global};
 
 /// The longest header that is asked of.
-const LONGEST_HEADER: usize = 64;
+const MAX_HEADER: usize = 64;
 
 /// The bytes of a text in hex; none where it isn't hex.
 fn bytes_in(alloc: Global, text: &[u8]) -> Result<Vec<u8>, AllocError> {
@@ -135,7 +135,7 @@ impl Answers {
     }
 
     fn last(&mut self, header: &[u8], nonce: &[u8], text: &[u8]) -> Result<(), AllocError> {
-        if header.len() > LONGEST_HEADER || nonce.len() > LONGEST_JOINT_NONCE {
+        if header.len() > MAX_HEADER || nonce.len() > MAX_JOINT_NONCE {
             return self.none();
         }
         match Last::read(self.alloc, header, nonce, text)? {
@@ -158,10 +158,7 @@ impl Answers {
     /// key that the server finds.
     fn exchange(&mut self, question: &Question<'_>) -> Result<(), AllocError> {
         let (salt, own, joint) = (question.value(1), question.value(3), question.value(4));
-        if salt.len() > LONGEST_SALT
-            || own.len() > LONGEST_NONCE
-            || joint.len() > LONGEST_JOINT_NONCE
-        {
+        if salt.len() > MAX_SALT || own.len() > MAX_NONCE || joint.len() > MAX_JOINT_NONCE {
             return self.none();
         }
         if own.len() > joint.len() {
@@ -184,7 +181,7 @@ impl Answers {
         challenge: &[u8],
         joint: &[u8],
     ) -> Result<(), AllocError> {
-        if first.len() < 3 || joint.len() > LONGEST_JOINT_NONCE {
+        if first.len() < 3 || joint.len() > MAX_JOINT_NONCE {
             return self.none();
         }
         let bare = &first[3..];

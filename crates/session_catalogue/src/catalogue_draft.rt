@@ -48,7 +48,7 @@ const INCOMPLETE: CatalogueError = CatalogueError {
 };
 
 /// The most values of a row.
-const MOST_VALUES: usize = 64;
+const MAX_VALUES: usize = 64;
 
 fn has_table(tables: &[Arc<Table>], name: &[u8]) -> bool
     ensures { result ≡ has_text (map table_name (map arc_value tables.now)) name.now }
@@ -193,7 +193,7 @@ fn last_fitting<'a>(
     let Some(table) = tables.last() else {
         return Err(CatalogueCause::NotALine);
     };
-    if values.count_up_to(MOST_VALUES) != Some(table.columns().len()) {
+    if values.count_up_to(MAX_VALUES) != Some(table.columns().len()) {
         return Err(CatalogueCause::WrongNumberOfValues);
     }
     Ok(table)

@@ -104,7 +104,7 @@ impl<'a> Fields<'a> {
         ensures { result ≡ list_all is_value (fields_left self.entry) }
     {
         for field in self {
-            if field.len() > LONGEST_VALUE {
+            if field.len() > MAX_VALUE {
                 return false;
             }
         }
@@ -138,10 +138,10 @@ impl<'a> Iterator for Fields<'a> {
 }
 
 /// The most bytes of a value.
-const LONGEST_VALUE: usize = 1_048_576;
+const MAX_VALUE: usize = 1_048_576;
 
 /// The most bytes of a name.
-const LONGEST_NAME: usize = 63;
+const MAX_NAME: usize = 63;
 
 fn starts_lower_name(byte: u8) -> bool
     ensures { result ≡ starts_lower_name byte }
@@ -167,7 +167,7 @@ fn has_name_bytes(text: &[u8]) -> bool
 pub(crate) fn is_lower_name(text: &[u8]) -> bool
     ensures { result ≡ is_lower_name text.now }
 {
-    if text.is_empty() || text.len() > LONGEST_NAME {
+    if text.is_empty() || text.len() > MAX_NAME {
         return false;
     }
     starts_lower_name(text[0]) && has_name_bytes(text)

@@ -21,15 +21,15 @@ pub(crate) enum Line<'a> {
 }
 
 /// The most bytes of a version.
-const LONGEST_VERSION: usize = 63;
+const MAX_VERSION: usize = 63;
 
 /// The most columns of a table.
-const MOST_COLUMNS: usize = 64;
+const MAX_COLUMNS: usize = 64;
 
 fn is_version(text: &[u8]) -> bool
     ensures { result ≡ is_version text.now }
 {
-    text.len() <= LONGEST_VERSION && has_no_zero(text)
+    text.len() <= MAX_VERSION && has_no_zero(text)
 }
 
 fn has_no_zero(text: &[u8]) -> bool
@@ -74,7 +74,7 @@ fn database_line(fields: Fields<'_>) -> Line<'_>
 fn are_columns(fields: Fields<'_>) -> bool
     ensures { result ≡ are_columns (fields_left fields.entry) }
 {
-    match fields.count_up_to(MOST_COLUMNS) {
+    match fields.count_up_to(MAX_COLUMNS) {
         Some(count) => count >= 1 && fields.are_names(),
         None => false,
     }

@@ -5,7 +5,7 @@ use Rattle.std.specs.Prelude.{if◌then◌else◌}
 use Rattle.std.specs.Fmt.{decimal, digits, digits_onto, digit_glyph}
 use Rattle.std.specs.List.{AllByRecursion, flat_map}
 use Rattle.frame_view.specs.declared.server.TheConstants.{PARAMETER_STATUS}
-use Rattle.frame_view.specs.declared.frames.TheConstants.{LONGEST_FRAME}
+use Rattle.frame_view.specs.declared.frames.TheConstants.{MAX_FRAME}
 use Rattle.frame_view.specs.Frames.{FrameOf}
 use Rattle.message_view.specs.Bodies.{HasNoZero, value, values, int32, text_columns, text_column, column}
 use Rattle.message_view.specs.Messages.{data_row, row_description, parameter_description, command_complete}
@@ -19,11 +19,11 @@ use Rattle.session_laws.proofs.GoodValues.{AreSettings, AreReported}
 
 -- a whole frame that is no ParameterStatus
 abbrev pub IsPlain : FrameOf → Type 0
-IsPlain f = (4 + length f.body ≤ LONGEST_FRAME) × ((f.kind == PARAMETER_STATUS) ≡ false)
+IsPlain f = (4 + length f.body ≤ MAX_FRAME) × ((f.kind == PARAMETER_STATUS) ≡ false)
 
 -- a row that a DataRow has room for
 abbrev pub IsSendable : Row → Type 0
-IsSendable r = 4 + length (values r) ≤ LONGEST_FRAME
+IsSendable r = 4 + length (values r) ≤ MAX_FRAME
 
 pub row-plain : (r : Row) → IsSendable r → IsPlain (data_row r)
 row-plain r h = (h, refl)

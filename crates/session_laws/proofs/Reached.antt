@@ -4,7 +4,7 @@ use Rattle.std.proofs.Common.{◌≡◌, ℕ, ◌+◌, ◌≤◌, List, [], ◌�
 use Rattle.std.specs.Prelude.{if◌then◌else◌}
 use Rattle.std.specs.List.{AllByRecursion}
 use Rattle.frame_view.specs.declared.server.TheConstants.{PARAMETER_STATUS}
-use Rattle.frame_view.specs.declared.frames.TheConstants.{LONGEST_FRAME}
+use Rattle.frame_view.specs.declared.frames.TheConstants.{MAX_FRAME}
 use Rattle.frame_view.specs.Frames.{AreBytes, FrameOf, IsFrame}
 use Rattle.frame_view.specs.declared.Side.TheVariants.{Server}
 use Rattle.message_view.specs.declared.ViewError.{ViewError}
@@ -34,13 +34,13 @@ use Rattle.session_laws.proofs.Telling.{reports-are, report-frame, reports-tell,
 
 pub record Stepped (s : State) (a : Answer) : Type 0 where
   pub lawful : Lawful a.next
-  pub frames : AllByRecursion (IsFrame Server LONGEST_FRAME) a.replies
+  pub frames : AllByRecursion (IsFrame Server MAX_FRAME) a.replies
   pub reports : AllByRecursion IsReportIf a.replies
   pub told : a.next.reported ≡ after_replies s.reported a.replies
 
 -- ---- plain replies
 
-plain-frame : (f : FrameOf) → IsPlain f → IsFrame Server LONGEST_FRAME f
+plain-frame : (f : FrameOf) → IsPlain f → IsFrame Server MAX_FRAME f
 plain-frame f h = record { of_type = refl; size = h.0 }
 
 plain-report : (f : FrameOf) → IsPlain f → IsReportIf f
@@ -53,7 +53,7 @@ after-plain vs (f ∷ fs) h = let e = h.0.1 in rw e (after-plain vs fs h.1)
 pub kept-stepped : (s : State) (a : Answer) → Kept s a.next a.replies → Stepped s a
 kept-stepped s a h = record {
   lawful = h.lawful;
-  frames = all-as IsPlain (IsFrame Server LONGEST_FRAME) plain-frame a.replies h.plain;
+  frames = all-as IsPlain (IsFrame Server MAX_FRAME) plain-frame a.replies h.plain;
   reports = all-as IsPlain IsReportIf plain-report a.replies h.plain;
   told = h.reported ∙ sym (after-plain s.reported a.replies h.plain);
 }
@@ -103,7 +103,7 @@ closing-stepped s t sent h e p =
     let last : List FrameOf = ready_for_query (status t.block) ∷ [] in
     record {
       lawful = made _ h.defaults h.current (reported-settings t.current h.current) h.saved h.statements h.portals h.tables h.lasting h.cursors;
-      frames = all-append (IsFrame Server LONGEST_FRAME) sent _ (all-as IsPlain (IsFrame Server LONGEST_FRAME) plain-frame sent p) (all-append (IsFrame Server LONGEST_FRAME) (reports t) last (all-as IsReport (IsFrame Server LONGEST_FRAME) report-frame (reports t) rs) (plain-frame _ (ready-plain (status t.block)), tt));
+      frames = all-append (IsFrame Server MAX_FRAME) sent _ (all-as IsPlain (IsFrame Server MAX_FRAME) plain-frame sent p) (all-append (IsFrame Server MAX_FRAME) (reports t) last (all-as IsReport (IsFrame Server MAX_FRAME) report-frame (reports t) rs) (plain-frame _ (ready-plain (status t.block)), tt));
       reports = all-append IsReportIf sent _ (all-as IsPlain IsReportIf plain-report sent p) (all-append IsReportIf (reports t) last (all-as IsReport IsReportIf (λ (f : FrameOf) (k : IsReport f) (z : f.kind ≡ 83). k) (reports t) rs) (plain-report _ (ready-plain (status t.block)), tt));
       told = closing-told s t sent h e p;
     }
@@ -173,12 +173,12 @@ terminated-stepped s h = kept-stepped s _ (kept s _ [] (made _ h.defaults h.curr
 abbrev IsParse : Parse → Type 0
 IsParse p = IsSource p.query × length p.oids ≤ 65535
 
-read-parse : (body : List ℕ) (r : Result Parse ViewError) → 4 + length body ≤ LONGEST_FRAME → ParseTold body r → OfOk IsParse (reading_body r)
+read-parse : (body : List ℕ) (r : Result Parse ViewError) → 4 + length body ≤ MAX_FRAME → ParseTold body r → OfOk IsParse (reading_body r)
 read-parse body (Ok p) l h = ((h.0, omega (arith, h.1)), h.2)
 read-parse body (Err v) l h = tt
 
 module _ (cat : CatalogueOf) (lawful_tables : AllByRecursion IsTable cat.tables) where
-  query-stepped : (s : State) (struck : Bool) (body : List ℕ) (r : Result Text ViewError) → 4 + length body ≤ LONGEST_FRAME → Lawful s → QueryTold body r → Stepped s (step_query cat s struck r)
+  query-stepped : (s : State) (struck : Bool) (body : List ℕ) (r : Result Text ViewError) → 4 + length body ≤ MAX_FRAME → Lawful s → QueryTold body r → Stepped s (step_query cat s struck r)
   query-stepped s struck body (Err v) l h k = end_query-stepped s (Err MalformedMessage) h tt
   query-stepped s true body (Ok t) l h k = end_query-stepped s (Err Cancelled) h tt
   query-stepped s false body (Ok t) l h k =
@@ -193,7 +193,7 @@ module _ (cat : CatalogueOf) (lawful_tables : AllByRecursion IsTable cat.tables)
   executed-kept s true e h = tt
   executed-kept s false e h = execute-kept cat lawful_tables s e.0 e.1 h
 
-  answer-stepped : (s : State) (struck : Bool) (a : Asked) (body : List ℕ) → 4 + length body ≤ LONGEST_FRAME → AreBytes body → Lawful s → Stepped s (answer_to cat s struck a body)
+  answer-stepped : (s : State) (struck : Bool) (a : Asked) (body : List ℕ) → 4 + length body ≤ MAX_FRAME → AreBytes body → Lawful s → Stepped s (answer_to cat s struck a body)
   answer-stepped s struck Terminate body l b h = terminated-stepped s h
   answer-stepped s struck Sync body l b h = sync-stepped s h
   answer-stepped s struck Query body l b h = saved-stepped s _ (query-stepped (saved s) struck body (query_of body) l (save-lawful s s.block h) (query-told body b))
@@ -259,7 +259,7 @@ reached-lawful cat key _ (steps {s} struck f r h) = (step-stepped cat (catalogue
 reached-stepped : (cat : CatalogueOf) (key : StartKeyOf) (s : State) (struck : Bool) (f : FrameOf) → Reaches cat key s → IsSent f → Stepped s (step cat s struck f)
 reached-stepped cat key s struck f r k = step-stepped cat (catalogue-tables cat (reached-catalogue cat key s r)) s struck f k (reached-lawful cat key s r)
 
-pub reached-frames : (cat : CatalogueOf) (key : StartKeyOf) (s : State) (struck : Bool) (f : FrameOf) → Reaches cat key s → IsSent f → AllByRecursion (IsFrame Server LONGEST_FRAME) (step cat s struck f).replies
+pub reached-frames : (cat : CatalogueOf) (key : StartKeyOf) (s : State) (struck : Bool) (f : FrameOf) → Reaches cat key s → IsSent f → AllByRecursion (IsFrame Server MAX_FRAME) (step cat s struck f).replies
 reached-frames cat key s struck f r k = (reached-stepped cat key s struck f r k).frames
 
 pub reached-reports : (cat : CatalogueOf) (key : StartKeyOf) (s : State) (struck : Bool) (f : FrameOf) → Reaches cat key s → IsSent f → AllByRecursion IsReportIf (step cat s struck f).replies

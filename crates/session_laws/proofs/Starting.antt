@@ -4,7 +4,7 @@ use Rattle.std.proofs.Common.{◌≡◌, ℕ, suc, ◌≤◌, false, List, [], �
 use Rattle.std.specs.Prelude.{if◌then◌else◌}
 use Rattle.std.specs.List.{AllZip}
 use Rattle.message_view.specs.declared.kinds.TheConstants.{IDLE}
-use Rattle.frame_view.specs.declared.frames.TheConstants.{LONGEST_FRAME}
+use Rattle.frame_view.specs.declared.frames.TheConstants.{MAX_FRAME}
 use Rattle.frame_view.specs.Frames.{FrameOf, IsFrame}
 use Rattle.frame_view.specs.declared.Side.TheVariants.{Server}
 use Rattle.message_view.specs.Bodies.{text, HasNoZero}
@@ -35,16 +35,16 @@ fresh-by_names cat key other d p =
 
 -- ---- the welcome is whole frames
 
-key-frame : (pid secret : ℕ) → IsFrame Server LONGEST_FRAME (backend_key_data pid secret)
+key-frame : (pid secret : ℕ) → IsFrame Server MAX_FRAME (backend_key_data pid secret)
 key-frame pid secret = record { of_type = refl; size = omega arith }
 
-ready-frame : IsFrame Server LONGEST_FRAME (ready_for_query IDLE)
+ready-frame : IsFrame Server MAX_FRAME (ready_for_query IDLE)
 ready-frame = record { of_type = refl; size = omega arith }
 
 pub welcome-frames : WelcomeIsFrames
 welcome-frames cat key s pid secret r =
     let h = reached-lawful cat key s r in
-    all-append (IsFrame Server LONGEST_FRAME) (all_reports s) (backend_key_data pid secret ∷ ready_for_query IDLE ∷ []) (all-as IsReport (IsFrame Server LONGEST_FRAME) report-frame (all_reports s) (all_reports-are s.reported h.reported)) (key-frame pid secret, (ready-frame, tt))
+    all-append (IsFrame Server MAX_FRAME) (all_reports s) (backend_key_data pid secret ∷ ready_for_query IDLE ∷ []) (all-as IsReport (IsFrame Server MAX_FRAME) report-frame (all_reports s) (all_reports-are s.reported h.reported)) (key-frame pid secret, (ready-frame, tt))
 
 -- ---- short frames
 

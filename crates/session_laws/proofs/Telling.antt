@@ -3,7 +3,7 @@ use Rattle.std.proofs.Common.{◌≡◌, ℕ, ◌+◌, ◌<◌, ◌≤◌, List,
 use Rattle.std.specs.Prelude.{if◌then◌else◌, slice_index_or}
 use Rattle.std.specs.List.{AllByRecursion, AllZip, Contains, list_all}
 use Rattle.std.proofs.lemmas.Slice.Eq.{bytes_eq-Decides}
-use Rattle.frame_view.specs.declared.frames.TheConstants.{LONGEST_FRAME}
+use Rattle.frame_view.specs.declared.frames.TheConstants.{MAX_FRAME}
 use Rattle.frame_view.specs.Frames.{FrameOf, IsFrame}
 use Rattle.frame_view.specs.declared.Side.TheVariants.{Server}
 use Rattle.message_view.specs.declared.ViewError.{ViewError}
@@ -59,10 +59,10 @@ all_reports-are vs h = all_reports-known reported_parameters vs all-known h
 status-length : (n v : Text) → length (status_body n v) ≡ length n + length v + 2
 status-length n v = omega (arith, length-append (text n) (text v), length-append n (0 ∷ []), length-append v (0 ∷ []))
 
-status-frame : (p : Parameter) (v : Text) → length v ≤ 63 → IsFrame Server LONGEST_FRAME (parameter_status (name p) v)
+status-frame : (p : Parameter) (v : Text) → length v ≤ 63 → IsFrame Server MAX_FRAME (parameter_status (name p) v)
 status-frame p v h = record { of_type = refl; size = omega (arith, status-length (name p) v, name-short p) }
 
-pub report-frame : (f : FrameOf) → IsReport f → IsFrame Server LONGEST_FRAME f
+pub report-frame : (f : FrameOf) → IsReport f → IsFrame Server MAX_FRAME f
 report-frame f h = let e = h.is in rw e (status-frame h.parameter h.value h.short)
 
 -- ---- they tell what changed

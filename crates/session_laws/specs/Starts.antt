@@ -2,7 +2,7 @@
 use Rattle.std.specs.Prelude.{◌≡◌, ℕ, ◌≤◌, length, Ok}
 use Rattle.std.specs.List.{AllByRecursion}
 use Rattle.frame_view.specs.Frames.{FrameOf, IsFrame}
-use Rattle.frame_view.specs.declared.frames.TheConstants.{LONGEST_FRAME}
+use Rattle.frame_view.specs.declared.frames.TheConstants.{MAX_FRAME}
 use Rattle.frame_view.specs.declared.Side.TheVariants.{Client, Server}
 use Rattle.message_view.specs.Reading.{status_of}
 use Rattle.session_values.specs.declared.cause.Cause.{Cause}
@@ -32,13 +32,13 @@ FreshByNames = (cat : CatalogueOf) (key other : StartKeyOf) → key.dbname ≡ o
 
 -- the welcome of a session, the error of a start that is refused, and DISCARD ALL are whole frames
 abbrev pub WelcomeIsFrames : Type 0
-WelcomeIsFrames = (cat : CatalogueOf) (key : StartKeyOf) (s : State) (pid secret : ℕ) → Reaches cat key s → AllByRecursion (IsFrame Server LONGEST_FRAME) (welcome s pid secret)
+WelcomeIsFrames = (cat : CatalogueOf) (key : StartKeyOf) (s : State) (pid secret : ℕ) → Reaches cat key s → AllByRecursion (IsFrame Server MAX_FRAME) (welcome s pid secret)
 
 abbrev pub StartErrorIsFrame : Type 0
-StartErrorIsFrame = (c : Cause) → IsFrame Server LONGEST_FRAME (fatal c)
+StartErrorIsFrame = (c : Cause) → IsFrame Server MAX_FRAME (fatal c)
 
 abbrev pub DiscardAllIsFrame : Type 0
-DiscardAllIsFrame = IsFrame Client LONGEST_FRAME discard_all
+DiscardAllIsFrame = IsFrame Client MAX_FRAME discard_all
 
 -- ---- starts and resets are short, and can be read
 

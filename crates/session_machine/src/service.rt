@@ -8,7 +8,7 @@ ghost use Rattle.session_values.specs.Step.{run_frames};
 
 use crate::step::answer;
 use bytes::BytesMut;
-use frame_view::{LONGEST_FRAME, Side, Step, next_frame};
+use frame_view::{MAX_FRAME, Side, Step, next_frame};
 use message_view::{KeyWord, Status, put_backend_key_data, put_ready_for_query};
 use session_catalogue::Catalogue;
 use session_statements::session::SessionState;
@@ -43,7 +43,7 @@ fn answer_all(
     ensures { OnOk result (out.new.items ≡ out.old.items ++ flat_map spelling (run_frames catalogue.now session.old [] (client_frames bytes.now)).replies) }
 {
     let mut at = 0;
-    while let Step::Whole(frame) = next_frame(bytes, at, LONGEST_FRAME, Side::Client) {
+    while let Step::Whole(frame) = next_frame(bytes, at, MAX_FRAME, Side::Client) {
         answer(alloc, session, catalogue, false, frame, out)?;
         at += frame.whole.len();
     }

@@ -2,7 +2,7 @@
 use Rattle.std.proofs.Common.{ℕ, zero, suc, ◌+◌, Bool, List, [], ◌∷◌, ◌++◌, length, append_assoc, refl, sym, ap, subst, ◌∙◌, arith}
 use Rattle.std.specs.List.{AllByRecursion, flat_map}
 use Rattle.std.specs.Int.{w32, to_be_bytes}
-use Rattle.frame_view.specs.declared.frames.TheConstants.{LONGEST_FRAME}
+use Rattle.frame_view.specs.declared.frames.TheConstants.{MAX_FRAME}
 use Rattle.frame_view.specs.Frames.{AreBytes, FrameOf, IsFrame, spelling}
 use Rattle.frame_view.specs.declared.Side.TheVariants.{Client, Server}
 use Rattle.frame_view.proofs.Splitting.{frames-split}
@@ -29,7 +29,7 @@ bytes_before [] rest k i = omega arith
 bytes_before (b ∷ front) rest k zero = k 0
 bytes_before (b ∷ front) rest k (suc i) = bytes_before front rest (λ j. k (suc j)) i
 
-spelled-sent : (fs : List FrameOf) (rest : List ℕ) → AllByRecursion (IsFrame Client LONGEST_FRAME) fs → AreBytes (flat_map spelling fs ++ rest) → AllByRecursion IsSent fs
+spelled-sent : (fs : List FrameOf) (rest : List ℕ) → AllByRecursion (IsFrame Client MAX_FRAME) fs → AreBytes (flat_map spelling fs ++ rest) → AllByRecursion IsSent fs
 spelled-sent [] rest h k = tt
 spelled-sent (f ∷ fs) rest h k =
     let bytes = subst AreBytes (append_assoc (spelling f) (flat_map spelling fs) rest) k in
@@ -38,7 +38,7 @@ spelled-sent (f ∷ fs) rest h k =
 
 pub client_frames-sent : ClientFramesAreSent
 client_frames-sent bytes h =
-    let s = frames-split Client LONGEST_FRAME bytes h in
+    let s = frames-split Client MAX_FRAME bytes h in
     spelled-sent (client_frames bytes) _ s.each (subst AreBytes s.whole h)
 
 -- ---- a run
@@ -49,7 +49,7 @@ run-are_frames cat key s marks [] r h = tt
 run-are_frames cat key s marks (f ∷ fs) r h =
     let m : Bool = first_mark marks in
     let t : State = (step cat s m f).next in
-    all-append (IsFrame Server LONGEST_FRAME) (step cat s m f).replies (run_frames cat t (later_marks marks) fs).replies (replies_are_frames cat key s m f r h.0) (run-are_frames cat key t (later_marks marks) fs (steps m f r h.0) h.1)
+    all-append (IsFrame Server MAX_FRAME) (step cat s m f).replies (run_frames cat t (later_marks marks) fs).replies (replies_are_frames cat key s m f r h.0) (run-are_frames cat key t (later_marks marks) fs (steps m f r h.0) h.1)
 
 pub run-told : RunReportsTellValues
 unfolding run_frames

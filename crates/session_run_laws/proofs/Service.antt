@@ -3,7 +3,7 @@ use Rattle.std.proofs.Common.{◌≡◌, ℕ, Bool, false, List, [], ◌++◌, r
 use Rattle.std.specs.List.{flat_map}
 use Rattle.std.proofs.lemmas.Grind.{flat_map-append}
 use Rattle.frame_view.specs.declared.Side.TheVariants.{Client}
-use Rattle.frame_view.specs.declared.frames.TheConstants.{LONGEST_FRAME}
+use Rattle.frame_view.specs.declared.frames.TheConstants.{MAX_FRAME}
 use Rattle.frame_view.specs.Frames.{FrameOf, Cut, frames, spelling}
 use Rattle.frame_view.proofs.Splitting.{frames-go_on}
 use Rattle.message_view.specs.Refusals.{Begins}
@@ -15,8 +15,8 @@ use Rattle.session_run_laws.proofs.ByName.{runs_go_on}
 use Rattle.session_run_laws.proofs.GoesOn.{unmarked_run}
 
 -- the frames of more bytes are more frames
-more_frames : (a b : List ℕ) → client_frames (a ++ b) ≡ client_frames a ++ client_frames ((frames Client LONGEST_FRAME a).rest ++ b)
-more_frames a b = ap (λ (c : Cut). c.frames) (frames-go_on Client LONGEST_FRAME a b)
+more_frames : (a b : List ℕ) → client_frames (a ++ b) ≡ client_frames a ++ client_frames ((frames Client MAX_FRAME a).rest ++ b)
+more_frames a b = ap (λ (c : Cut). c.frames) (frames-go_on Client MAX_FRAME a b)
 
 begins_by : (part whole more : List ℕ) → whole ≡ part ++ more → Begins part whole
 begins_by part whole more e = record { more = more; both = sym e }
@@ -33,8 +33,8 @@ served_on cat (Ok s) pid secret marks fs gs =
 pub service_on : (cat : CatalogueOf) (key : StartKeyOf) (pid secret : ℕ) (marks : List Bool) (a b : List ℕ) → Begins (service cat key pid secret marks a) (service cat key pid secret marks (a ++ b))
 unfolding service
 service_on cat key pid secret marks a b =
-    let x : Begins (flat_map spelling (served cat (fresh cat key) pid secret marks (client_frames a))) (flat_map spelling (served cat (fresh cat key) pid secret marks (client_frames a ++ client_frames ((frames Client LONGEST_FRAME a).rest ++ b)))) =
-    served_on cat (fresh cat key) pid secret marks (client_frames a) (client_frames ((frames Client LONGEST_FRAME a).rest ++ b)) in
+    let x : Begins (flat_map spelling (served cat (fresh cat key) pid secret marks (client_frames a))) (flat_map spelling (served cat (fresh cat key) pid secret marks (client_frames a ++ client_frames ((frames Client MAX_FRAME a).rest ++ b)))) =
+    served_on cat (fresh cat key) pid secret marks (client_frames a) (client_frames ((frames Client MAX_FRAME a).rest ++ b)) in
     record { more = x.more; both = x.both ∙ ap (λ (fs : List FrameOf). flat_map spelling (served cat (fresh cat key) pid secret marks fs)) (sym (more_frames a b)) }
 
 pub begins_both : (a b c : List ℕ) → Begins a b → Begins b c → Begins a c

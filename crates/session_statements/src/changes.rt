@@ -24,7 +24,7 @@ use std::alloc::{AllocError, Global};
 use std::sync::Arc;
 
 /// The greatest length of a value in a row, in bytes.
-const LONGEST_VALUE: usize = 1_048_576;
+const MAX_VALUE: usize = 1_048_576;
 
 /// The value at a place of a row, null past its end.
 pub fn cell_at(row: &[Option<Text>], place: usize) -> Result<Option<Text>, AllocError>
@@ -71,7 +71,7 @@ fn fits(value: &Option<Text>) -> bool
 {
     match value {
         None => true,
-        Some(text) => text.as_slice().len() <= LONGEST_VALUE,
+        Some(text) => text.as_slice().len() <= MAX_VALUE,
     }
 }
 

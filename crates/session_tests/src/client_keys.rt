@@ -93,8 +93,14 @@ fn faults(rt: HostRuntime) -> Result<(), Fail> {
             b"user\0ann\0USER\0bob\0\0",
             StartKeyError::UnsupportedParameter,
         ),
-        (b"user\0ann\0_pq_.x\0\0\0", StartKeyError::UnsupportedParameter),
-        (b"user\0ann\0replication\0true\0\0", StartKeyError::Replication),
+        (
+            b"user\0ann\0_pq_.x\0\0\0",
+            StartKeyError::UnsupportedParameter,
+        ),
+        (
+            b"user\0ann\0replication\0true\0\0",
+            StartKeyError::Replication,
+        ),
         (
             b"Replication\0\0user\0ann\0options\0\0\0",
             StartKeyError::UnsupportedParameter,

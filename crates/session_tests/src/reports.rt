@@ -1,6 +1,6 @@
 //! What links' servers report of their parameters.
 use message_view::StatusView;
-use param_track::{MOST_NAMES, ReportError, Reported};
+use param_track::{MAX_NAMES, ReportError, Reported};
 use std::alloc::Global;
 use std::test::Fail;
 
@@ -121,6 +121,6 @@ fn sixty_four_names(rt: HostRuntime) -> Result<(), Fail> {
         setting: b"1",
     };
     assert!(rt; reported.add(rt.alloc(), &known).err().is_none());
-    assert!(rt; reported.reports().len() == MOST_NAMES);
+    assert!(rt; reported.reports().len() == MAX_NAMES);
     Ok(())
 }

@@ -11,7 +11,7 @@ use Rattle.frame_view.specs.declared.FirstStep.{FirstStep}
 use Rattle.frame_view.specs.declared.FirstStep.TheVariants.{Startup, Cancel, Tls, Gss, Need, Bad}
 use Rattle.frame_view.specs.declared.Step.TheVariants as found
 use Rattle.frame_view.specs.declared.Side.TheVariants.{Client}
-use Rattle.frame_view.specs.declared.frames.TheConstants.{LONGEST_FRAME}
+use Rattle.frame_view.specs.declared.frames.TheConstants.{MAX_FRAME}
 use Rattle.frame_view.specs.declared.client.TheConstants.{TERMINATE}
 use Rattle.frame_view.specs.Answers.{Tells, TellsFirst}
 use Rattle.frame_view.specs.Frames.{AreBytes, FrameOf, Front, AFrame, Lacks, Faulty, Stops, Cut, FirstFront, AFirst, LacksFirst, FaultyFirst, FirstOf, Start, Cancels, AsksTls, AsksGss, first_front, first_spelling, front, spelling}
@@ -272,7 +272,7 @@ terminated cat s m body = by s.ended s.skipping refl refl
     by false false e k = rw (e, k) refl
 
 pub takes_frame_here : FuturesStay → (h : Host) (cat : CatalogueOf) (s next : SessionOf) (m : Bool) (frame : Frame) (took : Took) (bytes items rest out replied : List ℕ) → took ≡ after_frame frame.kind → cat ≡ (server_of h).catalogue → AreBytes bytes → bytes ≡ items
-    → Tells (found.Whole frame) bytes (front Client LONGEST_FRAME bytes) → (m ≡ true → can_strike (server_of h) s.state (frame_of frame) ≡ true) → Gave next.state out replied (step cat s.state m (frame_of frame)) → rest ≡ drop (length frame.whole.now) items
+    → Tells (found.Whole frame) bytes (front Client MAX_FRAME bytes) → (m ≡ true → can_strike (server_of h) s.state (frame_of frame) ≡ true) → Gave next.state out replied (step cat s.state m (frame_of frame)) → rest ≡ drop (length frame.whole.now) items
     → Takes took (talk_of h (Serves s) items out) (talk_of h (Serves next) rest replied)
 takes_frame_here stay h cat s next m frame took bytes items rest out replied w d fit same t may gave left =
     subst (λ (x : Took). Takes x (talk_of h (Serves s) items out) (talk_of h (Serves next) rest replied)) (sym w) (by (frame.kind == TERMINATE) refl)
@@ -297,10 +297,10 @@ takes_frame_here stay h cat s next m frame took bytes items rest out replied w d
         let ended : next.state.ended ≡ true = ap (λ (u : State). u.ended) gave.next ∙ ap (λ (k : ℕ). (step cat s.state m (record { kind = k; body = frame.body.now })).next.ended) (eqb-true frame.kind TERMINATE e) ∙ terminated cat s.state m frame.body.now in
         rw e (heard, record { silent = λ marks more. ap (flat_map spelling) (run_ended v.catalogue marks (client_frames (rest ++ more)) next.state ended); asked_is = λ more. refl })
     by false e =
-        let k = taken Client LONGEST_FRAME frame items (subst (λ (b : List ℕ). Tells (found.Whole frame) b (front Client LONGEST_FRAME b)) same t) in
+        let k = taken Client MAX_FRAME frame items (subst (λ (b : List ℕ). Tells (found.Whole frame) b (front Client MAX_FRAME b)) same t) in
         rw e (heard, omega (arith, ap length left, length-drop (length frame.whole.now) items, k.within, k.some))
 
-pub frame_waits : (h : Host) (s : SessionOf) (n : ℕ) (bytes items out : List ℕ) → bytes ≡ items → Tells (found.Need n) bytes (front Client LONGEST_FRAME bytes) → Takes Nothing (talk_of h (Serves s) items out) (talk_of h (Serves s) items out)
+pub frame_waits : (h : Host) (s : SessionOf) (n : ℕ) (bytes items out : List ℕ) → bytes ≡ items → Tells (found.Need n) bytes (front Client MAX_FRAME bytes) → Takes Nothing (talk_of h (Serves s) items out) (talk_of h (Serves s) items out)
 frame_waits h s n bytes items out same t = (unchanged (talk_of h (Serves s) items out), (waits_frame (server_of h) s.state (found.Need n) bytes items out [] same (λ f e. absurd cc) t).answered)
 
 faulty_of : (fault : FrameError) (bytes : List ℕ) (f : Front) → Tells (found.Bad fault) bytes f → f ≡ Faulty fault
@@ -308,14 +308,14 @@ faulty_of fault bytes (Faulty other) t = ap Faulty (sym t)
 faulty_of fault bytes (AFrame kind body rest) t = absurd t
 faulty_of fault bytes (Lacks n) t = absurd t
 
-pub frame_ends : FrontGrows → (h : Host) (s : SessionOf) (fault : FrameError) (bytes items out : List ℕ) → bytes ≡ items → Tells (found.Bad fault) bytes (front Client LONGEST_FRAME bytes) → Takes (End None) (talk_of h (Serves s) items out) (talk_of h (Serves s) items out)
+pub frame_ends : FrontGrows → (h : Host) (s : SessionOf) (fault : FrameError) (bytes items out : List ℕ) → bytes ≡ items → Tells (found.Bad fault) bytes (front Client MAX_FRAME bytes) → Takes (End None) (talk_of h (Serves s) items out) (talk_of h (Serves s) items out)
 unfolding run_frames
 frame_ends grows h s fault bytes items out same t = (
   unchanged (talk_of h (Serves s) items out),
   record {
     silent = λ marks more.
-        let e : front Client LONGEST_FRAME (items ++ more) ≡ Faulty fault = ap (λ (b : List ℕ). front Client LONGEST_FRAME (b ++ more)) (sym same) ∙ (grows Client LONGEST_FRAME bytes more).fault fault (faulty_of fault bytes (front Client LONGEST_FRAME bytes) t) in
-        ap (λ (c : Cut). flat_map spelling (run_frames (server_of h).catalogue s.state marks c.frames).replies) (frames-stopped Client LONGEST_FRAME (items ++ more) (subst Stops (sym e) tt));
+        let e : front Client MAX_FRAME (items ++ more) ≡ Faulty fault = ap (λ (b : List ℕ). front Client MAX_FRAME (b ++ more)) (sym same) ∙ (grows Client MAX_FRAME bytes more).fault fault (faulty_of fault bytes (front Client MAX_FRAME bytes) t) in
+        ap (λ (c : Cut). flat_map spelling (run_frames (server_of h).catalogue s.state marks c.frames).replies) (frames-stopped Client MAX_FRAME (items ++ more) (subst Stops (sym e) tt));
     asked_is = λ more. refl;
   },
 )

@@ -12,7 +12,7 @@ use session_catalogue::Catalogue;
 use std::alloc::Global;
 use std::sync::Arc;
 use std::sync::atomic::AtomicBool;
-use time_limits::MOST_TURNS;
+use time_limits::MAX_TURNS;
 
 /// As many bytes as one read takes at most.
 const ROOM: usize = 8192;
@@ -92,7 +92,7 @@ pub fn serve_client<C: ClientEnd, E: ServerEnd, G: Gate<E>>(
     let mut client = client;
     let mut talk = Talk::new(alloc, catalogue, own, flag);
     let mut room = [0u8; ROOM];
-    for _ in 0..MOST_TURNS {
+    for _ in 0..MAX_TURNS {
         match turn(&mut talk, &mut client, &mut room) {
             Progress::Moved => {}
             Progress::Still => {

@@ -12,7 +12,7 @@ use frame_view::client::TERMINATE;
 use frame_view::laws::{
     are_bytes, first_grows, first_read_is_spelled, front_grows, front_is_spelled,
 };
-use frame_view::{FirstStep, LONGEST_FRAME, Side, Step, first_packet, next_frame};
+use frame_view::{FirstStep, MAX_FRAME, Side, Step, first_packet, next_frame};
 use link_laws::futures_stay;
 use memory_ends::dialogue::started;
 use memory_ends::striker::strikes;
@@ -27,7 +27,7 @@ use std::sync::Arc;
 use std::sync::atomic::AtomicBool;
 
 /// Requests for TLS and for GSS encryption, and a StartupMessage.
-const MOST_FIRST_PACKETS: u8 = 3;
+const MAX_FIRST_PACKETS: u8 = 3;
 
 /// The bytes of a first packet's length and code, which are all of a request for encryption.
 const FIRST_HEAD: usize = 8;
@@ -184,7 +184,7 @@ impl Host {
         front_grows();
         let held = inbox.as_slice();
         are_bytes(held);
-        match next_frame(held, 0, LONGEST_FRAME, Side::Client) {
+        match next_frame(held, 0, MAX_FRAME, Side::Client) {
             Step::Whole(frame) => {
                 let used = frame.whole.len();
                 let took = after_frame(frame.kind);
@@ -235,7 +235,7 @@ impl Talk {
                 own,
                 flag,
             },
-            stage: Stage::Waits(MOST_FIRST_PACKETS),
+            stage: Stage::Waits(MAX_FIRST_PACKETS),
             inbox: BytesMut::new(alloc),
             outbox: BytesMut::new(alloc),
         }

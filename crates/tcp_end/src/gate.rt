@@ -11,7 +11,7 @@ use std::net::Net;
 use std::rt::Clock;
 use std::time::{Duration, Instant};
 use tcp_notes::reckoning::Reckoning;
-use time_limits::{CLIENT_TURN, LINK_TURN, MOST_TURNS, REST};
+use time_limits::{CLIENT_TURN, LINK_TURN, MAX_TURNS, REST};
 
 /// The client's connection among those of a poll, and the link's.
 const CLIENT: Token = Token(0);
@@ -19,7 +19,7 @@ const CLIENT: Token = Token(0);
 const LINK: Token = Token(1);
 
 /// As many events as one wait tells: the two connections have one each.
-const MOST_EVENTS: usize = 2;
+const MAX_EVENTS: usize = 2;
 
 /// A poll, and the room for what it tells. A thread keeps it from one gate to the next. The ends of the gate before are closed by then, or
 /// watched no more: what comes of another would be taken for what comes of the next gate's own.
@@ -39,7 +39,7 @@ impl GatePoll {
     pub fn new<R: Net>(rt: &R, alloc: Global) -> io::Result<GatePoll> {
         Ok(GatePoll {
             poll: Poll::new(rt)?,
-            events: Events::with_capacity(alloc, MOST_EVENTS)?,
+            events: Events::with_capacity(alloc, MAX_EVENTS)?,
         })
     }
 
@@ -293,7 +293,7 @@ impl<'a, R: Clock> Gate<TcpEnd> for TcpGate<'a, R> {
             self.wait(LINK_TURN.duration());
             return;
         };
-        for _ in 0..MOST_TURNS {
+        for _ in 0..MAX_TURNS {
             match self.left_of_turn(&start) {
                 Some(left) if !self.wait(left) => {}
                 _ => return,

@@ -10,7 +10,7 @@ use std::net::Net;
 use std::time::Duration;
 
 /// As many as one wait tells of; the others are told of by the next.
-const MOST_TOLD: usize = 64;
+const MAX_TOLD: usize = 64;
 
 /// Has connections minded by a poll. Any thread may.
 pub struct Minder {
@@ -52,7 +52,7 @@ impl IdlePoll {
     pub fn new<R: Net>(rt: &R, alloc: Global) -> io::Result<IdlePoll> {
         Ok(IdlePoll {
             poll: Poll::new(rt)?,
-            events: Events::with_capacity(alloc, MOST_TOLD)?,
+            events: Events::with_capacity(alloc, MAX_TOLD)?,
         })
     }
 

@@ -14,7 +14,7 @@ use time_limits::LISTENING_TURN;
 
 /// After so many connections all listeners are looked at again, though no event was waited for: one at which there always is another
 /// connection would else be the only one.
-const MOST_IN_A_ROW: u32 = 8;
+const MAX_IN_A_ROW: u32 = 8;
 
 /// What a turn came to.
 #[derive(Drop)]
@@ -108,7 +108,7 @@ impl Acceptor {
     fn had(&mut self, place: usize) {
         self.next = place.saturating_add(1);
         self.in_a_row = self.in_a_row.saturating_add(1);
-        if self.in_a_row < MOST_IN_A_ROW {
+        if self.in_a_row < MAX_IN_A_ROW {
             return;
         }
         self.in_a_row = 0;

@@ -8,7 +8,7 @@ use libc::net::{SHUT_RDWR, shutdown};
 use std::hint::spin_loop;
 use std::os::fd::RawFd;
 use std::sync::atomic::{AtomicU64, Ordering};
-use time_limits::MOST_TURNS;
+use time_limits::MAX_TURNS;
 
 /// The connection is there, and its client hasn't said who it is.
 const STRANGER: u64 = 0;
@@ -73,7 +73,7 @@ impl Presence {
     /// The descriptor is to be closed: from now on nobody shuts it down. It is waited for one who does so at this moment, for as long as
     /// that call takes.
     pub fn leave(&self) {
-        for _ in 0..MOST_TURNS {
+        for _ in 0..MAX_TURNS {
             if self.step(OVER) != CUTTING {
                 return;
             }

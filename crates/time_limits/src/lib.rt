@@ -59,7 +59,7 @@ const _: () = prove!(ENDING_TURNS as u64 * LINK_TURN.0 < SECOND.0);
 
 /// More turns than any run takes: for a loop that ends by what it meets, in a function that may not wait for ever. Such a one is proved to
 /// return, and its contract says what comes at their end too.
-pub const MOST_TURNS: u64 = u64::MAX;
+pub const MAX_TURNS: u64 = u64::MAX;
 
 // ---- clients
 

@@ -5,7 +5,7 @@ use crate::KEY_WORD;
 use crate::input::read_input;
 use crate::lines::put_hex_line;
 use bytes::BytesMut;
-use frame_view::{Frame, LONGEST_FRAME, Side, Step, next_frame};
+use frame_view::{Frame, MAX_FRAME, Side, Step, next_frame};
 use pool_app::fault::AppError;
 use pool_app::files::read_catalogue;
 use session_machine::{Catalogue, Session, StartKey, Text, solo_bytes};
@@ -92,7 +92,7 @@ fn put_frame_lines(
 ) -> Result<(), AllocError> {
     let mut rest = bytes;
     for number in 0..u64::MAX {
-        let Step::Whole(frame) = next_frame(rest, 0, LONGEST_FRAME, Side::Client) else {
+        let Step::Whole(frame) = next_frame(rest, 0, MAX_FRAME, Side::Client) else {
             break;
         };
         if number == cancelled {

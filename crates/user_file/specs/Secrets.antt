@@ -8,7 +8,7 @@ use Rattle.scram.specs.declared.verifier.Verifier.{Verifier}
 use Rattle.scram.specs.Verifiers.{verifier_of}
 use Rattle.scram.specs.Hmac.{hi}
 use Rattle.scram.specs.Keys.{client_key, is_client_key}
-use Rattle.scram.specs.declared.server_messages.TheConstants.{MOST_ROUNDS}
+use Rattle.scram.specs.declared.server_messages.TheConstants.{MAX_ROUNDS}
 use Rattle.sasl_prep.specs.Prepared.{prepared}
 use Rattle.user_file.specs.declared.secrets.Secret.{Secret}
 use Rattle.user_file.specs.declared.secrets.Secret.TheVariants.{Plain, Md5, Scram, Unusable}
@@ -79,7 +79,7 @@ abbrev pub client_key_by : Verifier → Text → List ℕ
 client_key_by verifier password = client_key (hi (prepared password) verifier.salt verifier.rounds)
 
 abbrev pub is_verified : Verifier → Text → Bool
-is_verified verifier password = if nat_le verifier.rounds MOST_ROUNDS then is_client_key verifier.keys.stored (client_key_by verifier password) else false
+is_verified verifier password = if nat_le verifier.rounds MAX_ROUNDS then is_client_key verifier.keys.stored (client_key_by verifier password) else false
 
 -- a password that came as it is
 abbrev pub accepts_plain : Secret → Text → Text → Bool

@@ -9,7 +9,7 @@ use crate::salts::{ROUNDS, Salting};
 use md5::{Digest, Md5};
 use sasl_prep::prepared;
 use scram::keys::salted;
-use scram::server_messages::MOST_ROUNDS;
+use scram::server_messages::MAX_ROUNDS;
 use scram::{ClientKeys, Salt, ServerKeys, Verifier};
 use std::alloc::{AllocError, Global};
 use std::fmt;
@@ -131,7 +131,7 @@ fn verified(
 ) -> Result<Option<[u8; 32]>, AllocError>
     ensures { IfOk result (λ k. k ≡ (if spec.is_verified verifier.now password.now then Some (spec.client_key_by verifier.now password.now) else None)) }
 {
-    if verifier.rounds > MOST_ROUNDS {
+    if verifier.rounds > MAX_ROUNDS {
         return Ok(None);
     }
     let text = prepared(alloc, password)?;

@@ -1,6 +1,6 @@
 //! The parts of messages, a line for each.
 
-use frame_view::{FirstStep, LONGEST_FRAME, Side, Step, client, first_packet, next_frame, server};
+use frame_view::{FirstStep, MAX_FRAME, Side, Step, client, first_packet, next_frame, server};
 use itoa::Buffer;
 use message_view::{
     AuthView, BindView, CloseView, Codes, DataRowView, DescribeView, ExecuteView, KeyView,
@@ -226,7 +226,7 @@ impl Line {
     fn messages(&mut self, side: Side, bytes: &[u8]) -> Result<(), AllocError> {
         let mut rest = bytes;
         for _ in 0..bytes.len() {
-            let Step::Whole(frame) = next_frame(rest, 0, LONGEST_FRAME, side) else {
+            let Step::Whole(frame) = next_frame(rest, 0, MAX_FRAME, side) else {
                 break;
             };
             let parts = match side {

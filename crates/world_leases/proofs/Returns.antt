@@ -13,7 +13,7 @@ use Rattle.session_run_laws.proofs.ByName.{run_replies_are_frames, settled_is_qu
 use Rattle.session_run_laws.proofs.GoesOn.{unmarked_run}
 use Rattle.link_laws.proofs.Splits.{SplitsOff, split_whole}
 use Rattle.world_steps.proofs.Sole.{all_client}
-use Rattle.frame_view.specs.declared.frames.TheConstants.{LONGEST_FRAME}
+use Rattle.frame_view.specs.declared.frames.TheConstants.{MAX_FRAME}
 use Rattle.world_steps.specs.Clients.{IsUnstruck}
 use Rattle.world_steps.specs.Links.{IsSettled, IsReset, Link}
 use Rattle.world_steps.specs.Relation.{Runs}
@@ -71,13 +71,13 @@ module _ (cat : CatalogueOf) (key : StartKeyOf) (base : State) (y : Link) (r : R
     rests : IsAtRest (run_frames cat base y.struck went).next
     are_sent : AllByRecursion IsSent went
 
-  all_answered : (went came : List FrameOf) → Reaches cat key base → AllByRecursion (IsFrame Client LONGEST_FRAME) went → y.sent ≡ flat_map spelling went →
-      AllByRecursion (IsFrame Server LONGEST_FRAME) came → y.received ≡ flat_map spelling came → IsAnswered went came → AllAnswered went
+  all_answered : (went came : List FrameOf) → Reaches cat key base → AllByRecursion (IsFrame Client MAX_FRAME) went → y.sent ≡ flat_map spelling went →
+      AllByRecursion (IsFrame Server MAX_FRAME) came → y.received ≡ flat_map spelling came → IsAnswered went came → AllAnswered went
   all_answered went came reached wents sent cames received answered =
       let said : List FrameOf = (run_frames cat base y.struck r.taken).replies in
-      let a : SplitsOff went r.taken [] y.inbox = split_whole Client LONGEST_FRAME went r.taken y.inbox (omega arith) wents (all_client r.taken r.are_sent) (sym sent ∙ r.sent_is) in
+      let a : SplitsOff went r.taken [] y.inbox = split_whole Client MAX_FRAME went r.taken y.inbox (omega arith) wents (all_client r.taken r.are_sent) (sym sent ∙ r.sent_is) in
       let told : flat_map spelling said ≡ flat_map spelling came ++ (y.outbox ++ r.told.rest) = sym r.told.is ∙ append_assoc y.received y.outbox r.told.rest ∙ ap (λ (l : List ℕ). l ++ (y.outbox ++ r.told.rest)) received in
-      let b : SplitsOff said came [] (y.outbox ++ r.told.rest) = split_whole Server LONGEST_FRAME said came (y.outbox ++ r.told.rest) (omega arith) (run_replies_are_frames cat key base y.struck r.taken reached r.are_sent) cames told in
+      let b : SplitsOff said came [] (y.outbox ++ r.told.rest) = split_whole Server MAX_FRAME said came (y.outbox ++ r.told.rest) (omega arith) (run_replies_are_frames cat key base y.struck r.taken reached r.are_sent) cames told in
       let q : IsQuiet cat base y.struck went came r.taken a.more b.more = settled_is_quiet cat base y.struck went came r.taken a.more b.more answered a.all b.all in
       let all : r.taken ≡ went = q.all in
       record {

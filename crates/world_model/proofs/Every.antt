@@ -32,7 +32,7 @@ use Rattle.world_steps.proofs.Fronts.{none_left, replies-append, joined-append, 
 use Rattle.world_steps.proofs.Clients.{phase_over, fresh_one, after_passed}
 use Rattle.world_steps.proofs.Sole.{frames_after}
 use Rattle.world_steps.proofs.Steps.{fits_at, role_at}
-use Rattle.frame_view.specs.declared.frames.TheConstants.{LONGEST_FRAME}
+use Rattle.frame_view.specs.declared.frames.TheConstants.{MAX_FRAME}
 use Rattle.world_model.specs.Headline.{Agree, HasIt, IsQuiet, IdleLinksAreFresh, LinksServeOne, RefusalsStandApart, future, OutsBegin, TwoWorlds}
 use Rattle.world_model.specs.Headline.HasIt.{is_served, awaits}
 use Rattle.world_steps.specs.Clients.{Client, given}
@@ -203,7 +203,7 @@ exact_service catalogue x y live h k =
     regroup a b c d e = simp append_assoc
 
 no_frames : client_frames [] ≡ []
-no_frames = ap (λ (c : Cut). c.frames) (frames-stopped OfClient LONGEST_FRAME [] tt)
+no_frames = ap (λ (c : Cut). c.frames) (frames-stopped OfClient MAX_FRAME [] tt)
 
 silent : (cat : CatalogueOf) (s : State) (b : List ℕ) → b ≡ [] → flat_map spelling (run_frames cat s [] (client_frames b)).replies ≡ []
 unfolding run_frames

@@ -28,7 +28,7 @@ use Rattle.world_steps.proofs.Fronts.{front_nil, front_append, front_trans, fron
 use Rattle.world_steps.proofs.Logins.{login_front, login_passed}
 use Rattle.world_steps.proofs.Sole.{frames_after, replies_front, Grows, not_done, is_done, grows, solo_front, allowed_more}
 use Rattle.world_steps.proofs.Service.{service_sends}
-use Rattle.frame_view.specs.declared.frames.TheConstants.{LONGEST_FRAME}
+use Rattle.frame_view.specs.declared.frames.TheConstants.{MAX_FRAME}
 use Rattle.world_steps.proofs.Changes.{sends_bytes}
 use Rattle.world_steps.specs.Clients.{Client, Phase, MayWrite, AtBorder}
 use Rattle.world_steps.specs.Links.{Link, Role}
@@ -63,7 +63,7 @@ module _ (catalogue : Address → CatalogueOf) where
       let reached : Reaches cat y.key k.base = fresh_is_reached cat y.key k.base (lawful (address_of y.key)) k.lawful_key k.is_fresh in
       record {
         frames = hello ++ said;
-        are_frames = all-append (IsFrame Server LONGEST_FRAME) hello said (welcome_is_frames cat y.key k.base x.word.pid x.word.secret reached) (run_replies_are_frames cat y.key k.base y.struck r.taken reached r.are_sent);
+        are_frames = all-append (IsFrame Server MAX_FRAME) hello said (welcome_is_frames cat y.key k.base x.word.pid x.word.secret reached) (run_replies_are_frames cat y.key k.base y.struck r.taken reached r.are_sent);
         first = front_trans (front_frames (front_under hello (replies_front cat k.base y.struck fronts)))
             (front_of (sym (ap (λ (marks : List Bool). after_in catalogue x.word marks (login x.row x.word x.sent).ended) h.struck ∙ after_passed x.word y.struck (login x.row x.word x.sent).ended y.key (y.sent ++ more) k.base h.passed k.is_fresh)));
         told = front_is (h.told ∙ ap (λ (s : State). joined_pieces (login x.row x.word x.sent).pieces ++ (flat_map spelling (welcome s x.word.pid x.word.secret) ++ y.received)) (sym same))
@@ -120,9 +120,9 @@ module _ (catalogue : Address → CatalogueOf) where
   -- ---- borders
 
   -- whole frames whose bytes are a front of those of frames are the first of them
-  frames_front_of : (fs gs : List FrameOf) (rest : List ℕ) → AllByRecursion (IsFrame Server LONGEST_FRAME) fs → AllByRecursion (IsFrame Server LONGEST_FRAME) gs → flat_map spelling fs ++ rest ≡ flat_map spelling gs → IsFront fs gs
+  frames_front_of : (fs gs : List FrameOf) (rest : List ℕ) → AllByRecursion (IsFrame Server MAX_FRAME) fs → AllByRecursion (IsFrame Server MAX_FRAME) gs → flat_map spelling fs ++ rest ≡ flat_map spelling gs → IsFront fs gs
   frames_front_of fs gs rest h k e =
-      let s : SplitsOff gs fs [] rest = split_whole Server LONGEST_FRAME gs fs rest (omega arith) k h (sym e) in
+      let s : SplitsOff gs fs [] rest = split_whole Server MAX_FRAME gs fs rest (omega arith) k h (sym e) in
       record { rest = s.more; is = sym s.all }
 
   pub record Pieces (x : Client) : Type 0 where

@@ -18,19 +18,19 @@ use Rattle.login_core.specs.Dialogue.{LoginRow, Way, ToLink, ToConsole, Reason, 
 use Rattle.login_core.specs.Solo.{solo_in, after_in}
 use Rattle.world_steps.proofs.Fronts.{front_refl, front_append, front_trans, front_under, front_of, front_joined, front_frames, replies-append}
 use Rattle.world_steps.proofs.Logins.{login_front, login_passed, login_stopped}
-use Rattle.frame_view.specs.declared.frames.TheConstants.{LONGEST_FRAME}
+use Rattle.frame_view.specs.declared.frames.TheConstants.{MAX_FRAME}
 use Rattle.world_steps.specs.Relation.{IsFront}
 
-pub all_client : (fs : List FrameOf) → AllByRecursion IsSent fs → AllByRecursion (IsFrame Client LONGEST_FRAME) fs
+pub all_client : (fs : List FrameOf) → AllByRecursion IsSent fs → AllByRecursion (IsFrame Client MAX_FRAME) fs
 all_client [] h = tt
 all_client (f ∷ fs) h = (h.0.whole, all_client fs h.1)
 
 -- the frames of bytes that begin with frames
 pub frames_after : (fs : List FrameOf) (b : List ℕ) → AllByRecursion IsSent fs → client_frames (flat_map spelling fs ++ b) ≡ fs ++ client_frames b
-frames_after fs b h = ap (λ (c : Cut). c.frames) (frames-spellings Client LONGEST_FRAME fs b (omega arith) (all_client fs h))
+frames_after fs b h = ap (λ (c : Cut). c.frames) (frames-spellings Client MAX_FRAME fs b (omega arith) (all_client fs h))
 
 frames_front : (a b : List ℕ) → IsFront (client_frames a) (client_frames (a ++ b))
-frames_front a b = record { rest = (frames Client LONGEST_FRAME ((frames Client LONGEST_FRAME a).rest ++ b)).frames; is = sym (ap (λ (c : Cut). c.frames) (frames-go_on Client LONGEST_FRAME a b)) }
+frames_front a b = record { rest = (frames Client MAX_FRAME ((frames Client MAX_FRAME a).rest ++ b)).frames; is = sym (ap (λ (c : Cut). c.frames) (frames-go_on Client MAX_FRAME a b)) }
 
 pub replies_front : (cat : CatalogueOf) (s : State) (marks : List Bool) {fs gs : List FrameOf} → IsFront fs gs → IsFront (run_frames cat s marks fs).replies (run_frames cat s marks gs).replies
 replies_front cat s marks {fs} {gs} f = record {

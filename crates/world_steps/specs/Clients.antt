@@ -2,7 +2,7 @@
 use Rattle.std.specs.Prelude.{◌≡◌, ℕ, Bool, false, List, [], ◌++◌, Option, None}
 use Rattle.std.specs.List.{flat_map, AllByRecursion}
 use Rattle.frame_view.specs.declared.Side.TheVariants.{Server}
-use Rattle.frame_view.specs.declared.frames.TheConstants.{LONGEST_FRAME}
+use Rattle.frame_view.specs.declared.frames.TheConstants.{MAX_FRAME}
 use Rattle.frame_view.specs.Frames.{FrameOf, IsFrame, spelling}
 use Rattle.message_view.specs.declared.KeyWord.{KeyWord}
 use Rattle.message_view.specs.declared.views.KeyView.{KeyView}
@@ -81,4 +81,4 @@ pub data HasEnded : Phase → Type 0 where
 -- what it was given ends at a border: some first pieces of its login, or all of them and then whole frames
 pub data AtBorder (x : Client) : Type 0 where
   in_login : (told kept : List (List ℕ)) → told ++ kept ≡ (login x.row x.word x.sent).pieces → x.out ≡ joined_pieces told → AtBorder x
-  past_login : (told : List FrameOf) → AllByRecursion (IsFrame Server LONGEST_FRAME) told → x.out ≡ joined_pieces (login x.row x.word x.sent).pieces ++ flat_map spelling told → AtBorder x
+  past_login : (told : List FrameOf) → AllByRecursion (IsFrame Server MAX_FRAME) told → x.out ≡ joined_pieces (login x.row x.word x.sent).pieces ++ flat_map spelling told → AtBorder x

@@ -3,7 +3,7 @@ use Rattle.std.specs.Prelude.{◌≡◌, ◌⊎◌, ℕ, Bool, true, false, ◌&
 use Rattle.std.specs.List.{flat_map, AllByRecursion}
 use Rattle.frame_view.specs.declared.Side.{Side}
 use Rattle.frame_view.specs.declared.Side.TheVariants.{Client, Server}
-use Rattle.frame_view.specs.declared.frames.TheConstants.{LONGEST_FRAME}
+use Rattle.frame_view.specs.declared.frames.TheConstants.{MAX_FRAME}
 use Rattle.frame_view.specs.Frames.{FrameOf, IsFrame, spelling}
 use Rattle.message_view.specs.declared.views.KeyView.{KeyView}
 use Rattle.session_values.specs.State.{State, StartKeyOf}
@@ -59,7 +59,7 @@ left_due false due = due
 
 -- the bytes are these frames, and no part of one more
 pub record AreTheFrames (side : Side) (bytes : List ℕ) (frames : List FrameOf) : Type 0 where
-  pub each : AllByRecursion (IsFrame side LONGEST_FRAME) frames
+  pub each : AllByRecursion (IsFrame side MAX_FRAME) frames
   pub bytes_are : bytes ≡ flat_map spelling frames
 
 -- whole frames went both ways: nothing was sent, or all was answered, and the last answer tells of no block

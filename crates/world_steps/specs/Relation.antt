@@ -2,7 +2,7 @@
 use Rattle.std.specs.Prelude.{◌≡◌, ◌⊎◌, ℕ, ◌≤◌, ◌<◌, true, Some, None, List, [], ◌++◌, map, length, Ok}
 use Rattle.std.specs.List.{flat_map, AllByRecursion}
 use Rattle.frame_view.specs.declared.Side.TheVariants.{Server}
-use Rattle.frame_view.specs.declared.frames.TheConstants.{LONGEST_FRAME}
+use Rattle.frame_view.specs.declared.frames.TheConstants.{MAX_FRAME}
 use Rattle.frame_view.specs.Frames.{FrameOf, IsFrame, spelling}
 use Rattle.message_view.specs.declared.refusal.Refusal.{Refusal}
 use Rattle.message_view.specs.declared.views.KeyView.{KeyView}
@@ -107,7 +107,7 @@ pub record InService (cat : CatalogueOf) (x : Client) (y : Link) : Type 0 where
 -- all that it was given and that is held for it begins its login's pieces and some first frames of its service
 pub record IsTold (catalogue : Address → CatalogueOf) (x : Client) : Type 0 where
   pub frames : List FrameOf
-  pub are_frames : AllByRecursion (IsFrame Server LONGEST_FRAME) frames
+  pub are_frames : AllByRecursion (IsFrame Server MAX_FRAME) frames
   pub first : IsFront (map spelling frames) (after_in catalogue x.word x.struck (login x.row x.word x.sent).ended)
   pub told : IsFront (x.out ++ x.for_client) (joined_pieces (login x.row x.word x.sent).pieces ++ flat_map spelling frames)
   pub quiet : x.refusal ≡ []

@@ -3,7 +3,7 @@ use Rattle.std.proofs.Common.{◌≡◌, ℕ, [], ◌∷◌, ◌++◌, refl, ap,
 use Rattle.std.specs.List.{AllByRecursion, flat_map}
 use Rattle.frame_view.specs.Frames.{IsFrame, cut_after, spelling}
 use Rattle.frame_view.specs.declared.Side.TheVariants.{Server}
-use Rattle.frame_view.specs.declared.frames.TheConstants.{LONGEST_FRAME}
+use Rattle.frame_view.specs.declared.frames.TheConstants.{MAX_FRAME}
 use Rattle.message_view.specs.declared.views.KeyView.{KeyView}
 use Rattle.message_view.specs.Reading.{text_at, int16_at, int32_at, value_at, list_at, query_of, parse_of, bind_of, target_of, execute_of, startup_of, pair_at, ended_at, list_until}
 use Rattle.mini_sql.specs.Tokens.{literal_length, unquoted, tokens_after}
@@ -96,7 +96,7 @@ return_used : {w : World} (c l : ℕ) → IsReachedBy ReturnsMarked w → (w.lin
     IsReachedBy ReturnsMarked (with_book (with_link w l (record (w.links l) { role = InReset; sent = []; received = []; struck = [] })) (apply w.book (EndLease l)).book)
 return_used {w} c l h e f s r = slips h (returns_used c l (apply w.book (EndLease l)).book e f s (record { reply_is = r; book_is = refl }))
 
-cancelled-are : AllByRecursion (IsFrame Server LONGEST_FRAME) cancelled
+cancelled-are : AllByRecursion (IsFrame Server MAX_FRAME) cancelled
 cancelled-are = (record { of_type = refl; size = omega arith }, (record { of_type = refl; size = omega arith }, tt))
 
 pub struck_reset : Spoils ReturnsMarked 2

@@ -4,7 +4,7 @@ use Rattle.std.specs.Prelude.{codes, nat_lt}
 use Rattle.std.specs.List.{AllByRecursion, flat_map, list_all}
 use Rattle.frame_view.specs.Frames.{AreBytes, FrameOf, IsFrame, cut_after, spelling}
 use Rattle.frame_view.specs.declared.Side.TheVariants.{Server}
-use Rattle.frame_view.specs.declared.frames.TheConstants.{LONGEST_FRAME}
+use Rattle.frame_view.specs.declared.frames.TheConstants.{MAX_FRAME}
 use Rattle.message_view.specs.declared.kinds.TheConstants.{IDLE}
 use Rattle.message_view.specs.declared.KeyWord.{KeyWord}
 use Rattle.message_view.specs.Messages.{command_complete, parameter_status, ready_for_query, query, startup_message}
@@ -129,10 +129,10 @@ change-sent = record { whole = record { of_type = refl; size = omega arith }; by
 pub discard-sent : IsSent discard_all
 discard-sent = record { whole = record { of_type = refl; size = omega arith }; bytes = bytes discard_all.body refl }
 
-pub changed-are : AllByRecursion (IsFrame Server LONGEST_FRAME) changed
+pub changed-are : AllByRecursion (IsFrame Server MAX_FRAME) changed
 changed-are = (record { of_type = refl; size = omega arith }, (record { of_type = refl; size = omega arith }, (record { of_type = refl; size = omega arith }, tt)))
 
-back-are : AllByRecursion (IsFrame Server LONGEST_FRAME) back
+back-are : AllByRecursion (IsFrame Server MAX_FRAME) back
 back-are = (record { of_type = refl; size = omega arith }, (record { of_type = refl; size = omega arith }, (record { of_type = refl; size = omega arith }, tt)))
 
 abbrev pub state_of : Result State Cause → State
@@ -155,7 +155,7 @@ is_fresh : fresh the_catalogue key ≡ Ok fresh_one
 unfolding fresh started_over accepted_of date_styles
 is_fresh = refl
 
-greeting-are : AllByRecursion (IsFrame Server LONGEST_FRAME) (welcome fresh_one 2 2)
+greeting-are : AllByRecursion (IsFrame Server MAX_FRAME) (welcome fresh_one 2 2)
 greeting-are = welcome_is_frames the_catalogue key fresh_one 2 2 (fresh_is_reached the_catalogue key fresh_one lawful link_key is_fresh)
 
 pub story : QuietLeasesAreWhole → Story

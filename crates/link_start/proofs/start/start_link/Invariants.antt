@@ -1,6 +1,6 @@
 use Rattle.std.proofs.Common.{◌≡◌, ◌+◌, ◌≤◌, length}
 use Rattle.std.specs.Arc.{arc_value}
-use Rattle.link_start.specs.declared.start.TheConstants.{LONGEST_WELCOME}
+use Rattle.link_start.specs.declared.start.TheConstants.{MAX_WELCOME}
 use Rattle.link_start.specs.Starts.{IsStartUnderWay, IsWaitingStart, bytes_left, moved_of, waits_of}
 use Rattle.link_start.proofs.start.start_link.Given as goal
 
@@ -10,7 +10,7 @@ invariant-loop-left g l = record {
   key : l.start.key ≡ arc_value l.fn.key;
   number : l.start.number ≡ l.fn.number;
   born : l.start.born ≡ l.fn.born;
-  short : length l.start.received ≤ LONGEST_WELCOME;
+  short : length l.start.received ≤ MAX_WELCOME;
   fewer : l.left ≤ l.fn.turns;
   tried : l.fn.turns + waits_of (g.E.ServerEnd.standing l.fn.end) ≤ waits_of l.start.end + l.left;
   waits : IsWaitingStart l.credential l.start;

@@ -1,7 +1,7 @@
 use Rattle.std.proofs.Common.{ℕ, ◌≤◌, ◌<◌, length, find, sym, ◌∙◌, subst}
 use Rattle.std.specs.Prelude.{count_by}
 use Rattle.book_model.specs.Book.{Book, is_number, is_of_client, without_number}
-use Rattle.book_model.specs.declared.limits.TheConstants.{MOST_LINKS}
+use Rattle.book_model.specs.declared.limits.TheConstants.{MAX_LINKS}
 use Rattle.book_register.proofs.Striking.{marks_fit, one_mark, struck}
 use Rattle.book_register.proofs.book_state.BookState.cancels.Goals as goal
 
@@ -10,6 +10,6 @@ note-requires-clause-once c = let P : Book → Type 0 = λ b. (n : ℕ) → coun
 
 pub note-requires-clause-room : goal.note-requires-clause-room
 note-requires-clause-room c =
-    let P : Book → Type 0 = λ b. length (without_number c.in-Strike.link b.marked) < MOST_LINKS in
+    let P : Book → Type 0 = λ b. length (without_number c.in-Strike.link b.marked) < MAX_LINKS in
     let there = (struck c.args.self.now (find (is_of_client c.args.client) c.args.self.now.keyed) c.in-Strike.link c.in-Strike.server (sym c.in-Strike.is ∙ c.strike-reply.ensures)).1 in
     subst P (sym c.self.view_is) (marks_fit c.args.self.now c.in-Strike.link c.requires.kept there)

@@ -2,7 +2,7 @@ use Rattle.std.proofs.Common.{◌≤◌, ◌<◌, ℕ, length, ap, sym, subst, �
 use Rattle.std.specs.Prelude.{count_by, find, option_copied}
 use Rattle.book_model.specs.Book.{Book, is_client, is_link, is_of}
 use Rattle.book_model.specs.Outcomes.{last_decision}
-use Rattle.book_model.specs.declared.limits.TheConstants.{MOST_LINKS}
+use Rattle.book_model.specs.declared.limits.TheConstants.{MAX_LINKS}
 use Rattle.book_register.specs.Choices.{Chooses}
 use Rattle.book_register.specs.declared.book_state.Choice.{Choice}
 use Rattle.book_register.proofs.Takes.{evict_done, lend_done, may_reuse, may_start, one_idle, one_more_fits, one_ticket, start_done, started_fits}
@@ -27,7 +27,7 @@ take_out-requires-in-Evict c = let P : Book → Type 0 = λ b. (n : ℕ) → cou
 pub lends-requires : goal.lends-requires
 lends-requires c =
     let idle = some_length _ c.args.self.now.idle c.in-Some-take_out-2.link (ap (λ (b : Book). find (is_link c.in-Lend.idle) b.idle) (sym c.self.view_is) ∙ (sym c.take_out-in-Lend.ensures.link ∙ c.in-Some-take_out-2.is)) in
-    let R : Book → Type 0 = λ b. length b.lent < MOST_LINKS in
+    let R : Book → Type 0 = λ b. length b.lent < MAX_LINKS in
     let P : Book → Type 0 = λ b. (n : ℕ) → count_by (is_client n) b.clients ≤ 1 in
     let M : Book → Type 0 = λ b. b.reuses < last_decision in
     record { room = subst R (sym c.self.view_is) (one_more_fits c.args.self.now c.requires.kept idle); once = subst P (sym c.self.view_is) c.requires.kept.clients.once; more = subst M (sym c.self.view_is) (may_reuse c.args.self.now c.requires.kept c.requires.more) }
@@ -35,7 +35,7 @@ lends-requires c =
 pub starts-requires : goal.starts-requires
 starts-requires c =
     let way = subst (λ (k : Choice). Chooses c.args.self.now c.in-Some.ticket.now k) c.in-Start.is c.choice-choice.ensures in
-    let R : Book → Type 0 = λ b. length b.lent < MOST_LINKS in
+    let R : Book → Type 0 = λ b. length b.lent < MAX_LINKS in
     let P : Book → Type 0 = λ b. (n : ℕ) → count_by (is_client n) b.clients ≤ 1 in
     let M : Book → Type 0 = λ b. b.starts < last_decision in
     let N : Book → Type 0 = λ b. b.next_link ≤ last_decision in
@@ -45,7 +45,7 @@ starts-requires c =
 pub starts-requires-in-Evict : goal.starts-requires-in-Evict
 starts-requires-in-Evict c =
     let way = subst (λ (k : Choice). Chooses c.args.self.now c.in-Some.ticket.now k) c.in-Evict.is c.choice-choice.ensures in
-    let R : Book → Type 0 = λ b. length b.lent < MOST_LINKS in
+    let R : Book → Type 0 = λ b. length b.lent < MAX_LINKS in
     let P : Book → Type 0 = λ b. (n : ℕ) → count_by (is_client n) b.clients ≤ 1 in
     let M : Book → Type 0 = λ b. b.starts < last_decision in
     let N : Book → Type 0 = λ b. b.next_link ≤ last_decision in
