@@ -1,6 +1,6 @@
 -- A client in memory that sends by its script, as its callers see it.
 use Rattle.std.specs.Prelude.{◌≡◌, ℕ, Bool, true, false, ◌||◌, List, [], ◌++◌, take}
-use Rattle.link_laws.specs.Standing.{ClientFacts}
+use Rattle.link_model.specs.Standing.{ClientFacts}
 use Rattle.memory_ends.specs.Clients.{given_with, is_broken}
 
 pub record ActClientOf : Type 0 where

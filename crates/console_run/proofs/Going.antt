@@ -3,7 +3,7 @@ use Rattle.std.proofs.Common.{◌≡◌, ℕ, ◌+◌, ◌≤◌, Bool, List, []
 use Rattle.std.proofs.lemmas.Grind.{flat_map-append}
 use Rattle.std.specs.List.{flat_map}
 use Rattle.frame_view.specs.Frames.{spelling}
-use Rattle.link_laws.specs.Standing.{ClientFacts}
+use Rattle.link_model.specs.Standing.{ClientFacts}
 use Rattle.console_core.specs.Messages.{response_to}
 use Rattle.console_run.specs.Passing.{Pass, after_doing}
 use Rattle.console_run.specs.Exchanges.{AreAnswered, Asker, Exchange, after_exchanges, asked_bytes, drops_after, drops_behind, told_bytes}

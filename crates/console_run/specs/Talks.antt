@@ -9,7 +9,7 @@ use Rattle.message_view.specs.declared.KeyWord.{KeyWord}
 use Rattle.message_view.specs.declared.refusal.Refusal.{Refusal}
 use Rattle.message_view.specs.declared.refusal.Refusal.TheVariants.{MalformedClientMessage, OutOfMemory, ClientMessageTooLong, LastDecision}
 use Rattle.time_limits.specs.declared.TheConstants.{MAX_TURNS}
-use Rattle.link_laws.specs.Standing.{ClientFacts}
+use Rattle.link_model.specs.Standing.{ClientFacts}
 use Rattle.console_core.specs.declared.commands.Action.{Action}
 use Rattle.console_core.specs.Messages.{Leave, response_to}
 use Rattle.console_run.specs.Passing.{Pass, broken_by}

@@ -15,7 +15,7 @@ use Rattle.book_register.specs.Views.{View, view_of}
 use Rattle.pool_figures.specs.Seen.{SeenOf}
 use Rattle.link_desk.specs.Counts.{AtMost, class_counts}
 use Rattle.time_limits.specs.declared.TheConstants.{MAX_TURNS}
-use Rattle.link_laws.specs.Standing.{ClientFacts}
+use Rattle.link_model.specs.Standing.{ClientFacts}
 use Rattle.link_desk.specs.declared.answers.Changed.{Changed}
 use Rattle.link_desk.specs.declared.answers.Changed.TheVariants as changed
 use Rattle.console_core.specs.declared.commands.Action.{Action}

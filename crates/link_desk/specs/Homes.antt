@@ -3,7 +3,7 @@ use Rattle.std.specs.Prelude.{◌≡◌, Bool, true, false, []}
 use Rattle.message_view.specs.Bodies.{Text}
 use Rattle.session_values.specs.State.{Address, CatalogueOf, StartKeyOf, address_of}
 use Rattle.credentials.specs.Credentials.{CredentialOf}
-use Rattle.link_laws.specs.Standing.{Standing}
+use Rattle.link_model.specs.Standing.{Standing}
 use Rattle.link_start.specs.Links.{LinkView}
 use Rattle.link_start.specs.Starts.{CanStart, IsLetIn}
 use Rattle.link_desk.specs.declared.answers.Grant.{Grant}

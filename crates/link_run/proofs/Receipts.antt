@@ -3,8 +3,8 @@ use Rattle.std.proofs.Common.{ℕ, List, [], append-nil, subst}
 use Rattle.std.specs.List.{flat_map}
 use Rattle.frame_view.specs.Frames.{spelling}
 use Rattle.session_run_laws.specs.Laws.{discard_all}
-use Rattle.link_laws.specs.Dialogues.{start_packets}
-use Rattle.link_laws.specs.Stages.{packets_bytes}
+use Rattle.link_model.specs.Dialogues.{start_packets}
+use Rattle.link_model.specs.Stages.{packets_bytes}
 use Rattle.server_end.specs.Standing.{Standing, Moves}
 use Rattle.server_end.proofs.Both.{moves_got}
 use Rattle.link_run.specs.Receipts.{by_start, by_reset, UntouchedIsClean}

@@ -9,8 +9,8 @@ use Rattle.session_values.specs.State.{StartKeyOf}
 use Rattle.session_run_laws.specs.Settling.{IsAnswered}
 use Rattle.param_track.specs.Kept.{Kept}
 use Rattle.server_end.specs.Standing.{Standing, Moves}
-use Rattle.link_laws.specs.Dialogues.{IsNew, start_packets}
-use Rattle.link_laws.specs.Stages.{packets_bytes}
+use Rattle.link_model.specs.Dialogues.{IsNew, start_packets}
+use Rattle.link_model.specs.Stages.{packets_bytes}
 use Rattle.link_run.specs.Links.{IsFreshLink, IsRestingLink, after_frames}
 use Rattle.link_run.specs.Dialogues.{IsResetDialogue, IsStartAnswer, TellsKey, reported_all}
 

@@ -14,8 +14,8 @@ use Rattle.user_file.specs.declared.secrets.Secret.TheVariants as secrets
 use Rattle.user_file.specs.Secrets.{answer, answers_md5}
 use Rattle.credentials.specs.Credentials.{CredentialOf, answers_scram, first_response}
 use Rattle.credentials.specs.Exchanges.{ExchangeOf, exchange_of}
-use Rattle.link_laws.specs.Stages.{Server, Question, Round, Packet, Closed, Turn, asks, goes_on, is_answer, let_in, opened, opens, wrong_password, started_by, answers}
-use Rattle.link_laws.specs.Dialogues.{answer_message, answer_packets, AreToRounds, refusal_of}
+use Rattle.link_model.specs.Stages.{Server, Question, Round, Packet, Closed, Turn, asks, goes_on, is_answer, let_in, opened, opens, wrong_password, started_by, answers}
+use Rattle.link_model.specs.Dialogues.{answer_message, answer_packets, AreToRounds, refusal_of}
 use Rattle.link_run.specs.Dialogues.{offers_scram}
 use Rattle.link_run.specs.declared.sasl.TheConstants.{ASKS_SASL, SASL_CONTINUES}
 use Rattle.link_start.specs.declared.start_reply.StartProgress.{StartProgress}

@@ -1,7 +1,7 @@
 -- A Terminate that is offered.
 use Rattle.std.proofs.Common.{◌≡◌, inl, inr, ℕ, zero, suc, ◌<◌, [], take, drop, refl, arith, take-append-drop}
 use Rattle.frame_view.specs.Frames.{spelling}
-use Rattle.link_laws.specs.Standing.{Standing, Moves}
+use Rattle.link_model.specs.Standing.{Standing, Moves}
 use Rattle.link_run.specs.declared.Moved.{Moved}
 use Rattle.link_run.specs.declared.Moved.TheVariants.{Count, NotNow, Ended, Fault}
 use Rattle.link_run.specs.Moves.{CountsWrite, IsWithin, moved}

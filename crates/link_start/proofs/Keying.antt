@@ -13,7 +13,7 @@ use Rattle.session_values.specs.Parameters.{reported_parameters}
 use Rattle.session_values.specs.State.{State, all_reports_from}
 use Rattle.session_values.specs.Service.{welcome}
 use Rattle.start_keys.specs.StartPairs.{Text}
-use Rattle.link_laws.specs.Stages.{Server}
+use Rattle.link_model.specs.Stages.{Server}
 use Rattle.link_run.specs.Dialogues.{TellsKey, key_read, keyed_next, keyed_all}
 use Rattle.link_start.specs.Starts.{IsOwnKey}
 

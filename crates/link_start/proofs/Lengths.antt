@@ -11,9 +11,9 @@ use Rattle.session_values.specs.declared.cause.Cause.{Cause}
 use Rattle.session_values.specs.declared.parameter.Parameter.{Parameter}
 use Rattle.session_values.specs.Parameters.{reported_parameters}
 use Rattle.session_values.specs.State.{State, StartKeyOf, all_reports_from}
-use Rattle.link_laws.specs.Stages.{Server, Auth, Question, Round, asks, goes_on, is_answer, opened, opens, started_by}
-use Rattle.link_laws.specs.Starts.{start_body}
-use Rattle.link_laws.specs.Dialogues.{answer_message, answer_packets, start_replies, IsShortReply}
+use Rattle.link_model.specs.Stages.{Server, Auth, Question, Round, asks, goes_on, is_answer, opened, opens, started_by}
+use Rattle.link_model.specs.Starts.{start_body}
+use Rattle.link_model.specs.Dialogues.{answer_message, answer_packets, start_replies, IsShortReply}
 use Rattle.credentials.specs.Credentials.{CredentialOf}
 use Rattle.link_start.specs.declared.start.TheConstants.{MAX_WELCOME}
 use Rattle.link_start.specs.declared.start_reply.StartProgress.{StartProgress}

@@ -18,13 +18,13 @@ use Rattle.session_values.specs.declared.cause.Cause.{Cause}
 use Rattle.session_values.specs.State.{State, StartKeyOf, fresh}
 use Rattle.credentials.specs.Credentials.{CredentialOf}
 use Rattle.param_track.specs.Kept.{Kept}
-use Rattle.link_laws.specs.Stages.{Server, Auth, Packet, packet_bytes, packets_bytes}
-use Rattle.link_laws.specs.Standing.{Standing, Moves}
-use Rattle.link_laws.specs.Starts.{start_body}
-use Rattle.link_laws.specs.Links.{IsFresh}
-use Rattle.link_laws.specs.Dialogues.{IsStarting, AreToQuestions, FitsPacket, IsTold, IsShortReply, answer_message, answer_packets, auth_of, start_error, start_packets, start_replies, start_refusal}
-use Rattle.link_laws.proofs.Both.{moves_none, moves_got, moves_put}
-use Rattle.link_laws.proofs.ByName.{start_replies_are_frames, starts_are_told, started_is_fresh}
+use Rattle.link_model.specs.Stages.{Server, Auth, Packet, packet_bytes, packets_bytes}
+use Rattle.link_model.specs.Standing.{Standing, Moves}
+use Rattle.link_model.specs.Starts.{start_body}
+use Rattle.link_model.specs.Links.{IsFresh}
+use Rattle.link_model.specs.Dialogues.{IsStarting, AreToQuestions, FitsPacket, IsTold, IsShortReply, answer_message, answer_packets, auth_of, start_error, start_packets, start_replies, start_refusal}
+use Rattle.link_model.proofs.Both.{moves_none, moves_got, moves_put}
+use Rattle.link_model.proofs.ByName.{start_replies_are_frames, starts_are_told, started_is_fresh}
 use Rattle.link_run.specs.Links.{kept_by}
 use Rattle.link_run.specs.Dialogues.{TellsKey, keyed_all, reported_all}
 use Rattle.link_run.specs.Receipts.{HasStarted, IsClean, by_start}

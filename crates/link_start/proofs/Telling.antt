@@ -21,10 +21,10 @@ use Rattle.session_values.specs.Service.{welcome}
 use Rattle.credentials.specs.Credentials.{CredentialOf}
 use Rattle.session_laws.specs.Starts.{Welcomes}
 use Rattle.session_laws.proofs.ByName.{fresh_is_reached, welcome_is_read}
-use Rattle.link_laws.specs.Stages.{Server, Auth, Question, Round, asks, goes_on, is_answer, let_in, wrong_password, opened, opens}
-use Rattle.link_laws.specs.Starts.{start_body}
-use Rattle.link_laws.specs.Dialogues.{answer_message, answer_packets, start_replies, start_error, start_refusal, refusal_of, IsShortReply}
-use Rattle.link_laws.proofs.ByName.{starts_are_of_their_keys}
+use Rattle.link_model.specs.Stages.{Server, Auth, Question, Round, asks, goes_on, is_answer, let_in, wrong_password, opened, opens}
+use Rattle.link_model.specs.Starts.{start_body}
+use Rattle.link_model.specs.Dialogues.{answer_message, answer_packets, start_replies, start_error, start_refusal, refusal_of, IsShortReply}
+use Rattle.link_model.proofs.ByName.{starts_are_of_their_keys}
 use Rattle.link_run.specs.Links.{kept_by}
 use Rattle.link_start.specs.declared.start_reply.StartProgress.{StartProgress}
 use Rattle.link_start.specs.declared.start_reply.StartProgress.TheVariants.{Nothing, Asked, Proved, LetIn, Ready, Refused, Other}

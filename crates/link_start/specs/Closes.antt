@@ -2,7 +2,7 @@
 use Rattle.std.specs.Prelude.{◌≡◌, ◌⊎◌, ◌<◌, ℕ, false, List, [], ◌++◌}
 use Rattle.frame_view.specs.Frames.{FrameOf, spelling}
 use Rattle.frame_view.specs.declared.client.TheConstants.{TERMINATE}
-use Rattle.link_laws.specs.Standing.{Standing, Moves}
+use Rattle.link_model.specs.Standing.{Standing, Moves}
 
 abbrev pub terminate : FrameOf
 terminate = record { kind = TERMINATE; body = [] }

@@ -11,7 +11,7 @@ use Rattle.user_file.specs.declared.secrets.Secret.{Secret}
 use Rattle.user_file.specs.declared.secrets.Secret.TheVariants as secrets
 use Rattle.user_file.specs.Secrets.{answer, answers_md5}
 use Rattle.credentials.specs.Credentials.{CredentialOf, answers_scram, first_response}
-use Rattle.link_laws.specs.Dialogues.{answer_message}
+use Rattle.link_model.specs.Dialogues.{answer_message}
 use Rattle.link_start.specs.declared.start_reply.ServerQuestion.{ServerQuestion}
 use Rattle.link_start.specs.declared.start_reply.ServerQuestion.TheVariants.{Cleartext, Md5, Scram, Challenge, Unknown}
 

@@ -10,9 +10,9 @@ use Rattle.message_view.specs.Bodies.{Text}
 use Rattle.session_values.specs.Lawful.{IsClientKey}
 use Rattle.session_values.specs.State.{StartKeyOf, fresh}
 use Rattle.credentials.specs.Credentials.{CredentialOf}
-use Rattle.link_laws.specs.Stages.{Server as TheServer, Auth, Question, Round, asks, let_in}
-use Rattle.link_laws.specs.Standing.{Standing, Moves}
-use Rattle.link_laws.specs.Dialogues.{IsNew, AsksInFrame, IsStarting, auth_of, start_error, start_refusal}
+use Rattle.link_model.specs.Stages.{Server as TheServer, Auth, Question, Round, asks, let_in}
+use Rattle.link_model.specs.Standing.{Standing, Moves}
+use Rattle.link_model.specs.Dialogues.{IsNew, AsksInFrame, IsStarting, auth_of, start_error, start_refusal}
 use Rattle.link_run.specs.Dialogues.{TellsKey, keyed_all, reported_all}
 use Rattle.link_run.specs.Links.{LinkView}
 use Rattle.link_run.specs.declared.reply.TheConstants.{MAX_REPLY}

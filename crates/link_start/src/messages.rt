@@ -1,7 +1,7 @@
 //! What is sent to a server that is started.
 ghost use Rattle.std.specs.Prelude.{◌≡◌, ◌+◌, ◌^◌, ◌<◌, IfOk, length};
 ghost use Rattle.frame_view.specs.Frames.{Start, first_spelling};
-ghost use Rattle.link_laws.specs.Starts.{start_body};
+ghost use Rattle.link_model.specs.Starts.{start_body};
 ghost use Rattle.link_start.specs.Questions as spec;
 ghost use Rattle.link_start.specs.Questions.{PutsAnswer, answer_to};
 ghost use Rattle.link_start.specs.Starts.{shown};

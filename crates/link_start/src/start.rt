@@ -4,7 +4,7 @@ ghost use Rattle.frame_view.specs.Frames.{AreBytes, frames};
 ghost use Rattle.frame_view.specs.declared.Side.TheVariants.{Server};
 ghost use Rattle.link_run.specs.declared.reply.TheConstants.{MAX_REPLY};
 ghost use Rattle.std.specs.Arc.{arc_value};
-ghost use Rattle.link_laws.specs.Standing.{Standing};
+ghost use Rattle.link_model.specs.Standing.{Standing};
 ghost use Rattle.link_start.specs.StartReply.{error_in, heard};
 ghost use Rattle.link_start.specs.declared.start_reply.StartProgress.TheVariants as came;
 ghost use Rattle.link_start.specs.declared.start.Progress.TheVariants as progress;

@@ -3,7 +3,7 @@ use Rattle.std.proofs.Common.{◌≡◌, ℕ, List, Option, refl, sym, subst}
 use Rattle.message_view.specs.Reading.{authentication_of, int32_at}
 use Rattle.session_values.specs.Lawful.{IsLawfulCatalogue}
 use Rattle.credentials.specs.Credentials.{CredentialOf}
-use Rattle.link_laws.specs.Stages.{Server, let_in, no_auth}
+use Rattle.link_model.specs.Stages.{Server, let_in, no_auth}
 use Rattle.memory_ends.specs.Servers.{ServerOf, new_server}
 use Rattle.link_start.specs.declared.start_reply.StartProgress.TheVariants.{Nothing, LetIn}
 use Rattle.link_start.specs.StartReply.{heard_by}

@@ -2,8 +2,8 @@
 use Rattle.std.specs.Prelude.{ℕ, false, nat_lt, length, Some, List, [], ◌++◌}
 use Rattle.session_values.specs.State.{StartKeyOf}
 use Rattle.memory_ends.specs.Gone.{start_of, welcome_of}
-use Rattle.link_laws.specs.Stages.{Closed}
-use Rattle.link_laws.specs.Standing.{Standing}
+use Rattle.link_model.specs.Stages.{Closed}
+use Rattle.link_model.specs.Standing.{Standing}
 
 abbrev pub saying : StartKeyOf → List ℕ → List ℕ → List ℕ → Standing
 saying key words accepted given = record {

@@ -9,7 +9,7 @@ use memory_ends::memory_client::MemoryClient;
 use memory_ends::memory_server::ServerAuth;
 use message_view::{KeyWord, Refusal};
 use relay_core::relay::{Relay, Returned};
-use relay_laws::Next;
+use relay_model::Next;
 use server_end::gate::Ready;
 use std::alloc::Global;
 use std::test::Fail;

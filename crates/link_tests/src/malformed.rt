@@ -5,7 +5,7 @@ use disposal::Verdict;
 use memory_ends::memory_client::MemoryClient;
 use message_view::{KeyWord, Refusal};
 use relay_core::relay::{GoneCause, Relay, Returned};
-use relay_laws::Next;
+use relay_model::Next;
 use server_end::gate::Ready;
 use std::alloc::Global;
 use std::test::Fail;

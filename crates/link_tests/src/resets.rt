@@ -9,7 +9,7 @@ use memory_ends::memory_server::ServerAuth;
 use message_view::KeyWord;
 use paced_client::PacedClient;
 use relay_core::relay::{Relay, Returned};
-use relay_laws::Next;
+use relay_model::Next;
 use server_end::ServerEnd;
 use server_end::gate::{OpenGate, Ready};
 use std::alloc::Global;

@@ -11,7 +11,7 @@ use memory_ends::memory_server::ServerAuth;
 use message_view::KeyWord;
 use relay_core::last_note::LastNote;
 use relay_core::relay::{GoneCause, Relay, Returned};
-use relay_laws::Next;
+use relay_model::Next;
 use server_end::ServerEnd;
 use server_end::gate::{Counts, Ready};
 use std::alloc::Global;

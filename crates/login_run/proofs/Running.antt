@@ -8,7 +8,7 @@ use Rattle.message_view.specs.declared.KeyWord.{KeyWord}
 use Rattle.message_view.specs.declared.refusal.Refusal.{Refusal}
 use Rattle.message_view.specs.declared.refusal.Refusal.TheVariants.{OutOfMemory}
 use Rattle.message_view.specs.Refusals.{joined_pieces}
-use Rattle.link_laws.specs.Standing.{ClientFacts}
+use Rattle.link_model.specs.Standing.{ClientFacts}
 use Rattle.server_end.specs.declared.Moved.{Moved}
 use Rattle.server_end.specs.declared.Moved.TheVariants.{Ended, Fault}
 use Rattle.server_end.specs.Moves.{ClientReads, ClientWrites, moved}

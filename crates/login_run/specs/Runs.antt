@@ -7,7 +7,7 @@ use Rattle.message_view.specs.declared.refusal.Refusal.TheVariants.{OutOfMemory}
 use Rattle.message_view.specs.declared.views.KeyView.{KeyView}
 use Rattle.message_view.specs.Refusals.{joined_pieces, refusal}
 use Rattle.session_values.specs.State.{StartKeyOf}
-use Rattle.link_laws.specs.Standing.{ClientFacts}
+use Rattle.link_model.specs.Standing.{ClientFacts}
 use Rattle.login_core.specs.declared.steps.LoginStep.{LoginStep}
 use Rattle.login_core.specs.declared.steps.LoginStep.TheVariants as step
 use Rattle.login_core.specs.Talk.{End}

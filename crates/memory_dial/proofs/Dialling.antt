@@ -5,7 +5,7 @@ use Rattle.std.specs.Result.{result_ok}
 use Rattle.session_values.specs.Lawful.{IsLawfulCatalogue}
 use Rattle.session_values.specs.State.{Address, StartKeyOf, address_of}
 use Rattle.credentials.specs.Credentials.{CredentialOf}
-use Rattle.link_laws.specs.Stages.{Server, no_auth}
+use Rattle.link_model.specs.Stages.{Server, no_auth}
 use Rattle.memory_ends.specs.declared.memory_server.ServerAuth.TheVariants.{Trust}
 use Rattle.memory_ends.specs.Servers.{ServerOf, new_server}
 use Rattle.memory_start_laws.specs.Starts.{MemoryServersCanStart}

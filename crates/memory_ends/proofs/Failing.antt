@@ -1,6 +1,6 @@
 -- An end that fails from one of its calls on.
 use Rattle.std.proofs.Common.{◌≡◌, inl, inr, ℕ, ◌+◌, Some, None, List, [], refl, sym, ap, ◌∙◌, append-nil, arith}
-use Rattle.link_laws.specs.Standing.{Standing, ClientFacts, Moves}
+use Rattle.link_model.specs.Standing.{Standing, ClientFacts, Moves}
 use Rattle.server_end.specs.declared.Moved.{Moved}
 use Rattle.server_end.specs.declared.Moved.TheVariants.{Count, NotNow, Ended, Fault}
 use Rattle.memory_ends.specs.declared.failing_end.Calls.{Calls}

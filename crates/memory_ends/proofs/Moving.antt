@@ -1,8 +1,8 @@
 -- The moves of a stand-in server in memory.
 use Rattle.std.proofs.Common.{◌≡◌, ℕ, ◌≤◌, Bool, true, false, Option, Some, None, List, [], ◌++◌, take, drop, refl, sym, ap, ◌∙◌, append-nil, arith, subst, take-append-drop}
 use Rattle.std.proofs.lemmas.Bool.{true≢false}
-use Rattle.link_laws.specs.Standing.{Standing, Served, Moves, marks_since}
-use Rattle.link_laws.proofs.Both.{moves_both, none_since, since_is}
+use Rattle.link_model.specs.Standing.{Standing, Served, Moves, marks_since}
+use Rattle.link_model.proofs.Both.{moves_both, none_since, since_is}
 use Rattle.server_end.specs.declared.Moved.{Moved}
 use Rattle.server_end.specs.declared.Moved.TheVariants.{Fault}
 use Rattle.memory_ends.specs.declared.dialogue.Dialogue.{Dialogue}

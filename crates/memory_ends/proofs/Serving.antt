@@ -22,11 +22,11 @@ use Rattle.session_values.specs.Answers.{Gave, frame_of}
 use Rattle.session_values.specs.Errors.{fatal}
 use Rattle.session_values.specs.State.{State, CatalogueOf}
 use Rattle.session_values.specs.Step.{step, run_frames}
-use Rattle.link_laws.specs.Laws.{IsSent}
+use Rattle.link_model.specs.Laws.{IsSent}
 use Rattle.message_laws.proofs.Trips.{bytes_after}
-use Rattle.link_laws.specs.Futures.{replies_in}
-use Rattle.link_laws.specs.Stages.{Server, Auth, Stage, Before, Asked, Open, Closed, Starts, Sends, can_strike, packet_bytes, packet_marks, begins, hears, let_in, no_auth, opened, serve}
-use Rattle.link_laws.proofs.Both.{served_both}
+use Rattle.link_model.specs.Futures.{replies_in}
+use Rattle.link_model.specs.Stages.{Server, Auth, Stage, Before, Asked, Open, Closed, Starts, Sends, can_strike, packet_bytes, packet_marks, begins, hears, let_in, no_auth, opened, serve}
+use Rattle.link_model.proofs.Both.{served_both}
 use Rattle.memory_ends.specs.declared.dialogue.Host.{Host}
 use Rattle.session_machine.specs.Sessions.{SessionOf, unstruck_if}
 use Rattle.memory_ends.specs.declared.dialogue.Dialogue.{Dialogue}

@@ -1,6 +1,6 @@
 -- An end that fails from one of its calls on.
 use Rattle.std.specs.Prelude.{◌≡◌, ◌⊎◌, ℕ, ◌+◌, ◌-◌, ◌^◌, ◌<◌, true, false, Option, Some, None}
-use Rattle.link_laws.specs.Standing.{Standing, ClientFacts}
+use Rattle.link_model.specs.Standing.{Standing, ClientFacts}
 use Rattle.server_end.specs.declared.Moved.{Moved}
 use Rattle.server_end.specs.declared.Moved.TheVariants.{Count, NotNow, Ended, Fault}
 use Rattle.memory_ends.specs.declared.failing_end.Calls.{Calls}

@@ -5,9 +5,9 @@ use Rattle.frame_view.specs.Frames.{FrameOf, spelling}
 use Rattle.message_view.specs.declared.kinds.TheConstants.{IDLE}
 use Rattle.message_view.specs.Messages.{ready_for_query}
 use Rattle.session_values.specs.State.{StartKeyOf}
-use Rattle.link_laws.specs.Dialogues.{start_packets}
-use Rattle.link_laws.specs.Stages.{Closed, let_in, packets_bytes}
-use Rattle.link_laws.specs.Standing.{Standing}
+use Rattle.link_model.specs.Dialogues.{start_packets}
+use Rattle.link_model.specs.Stages.{Closed, let_in, packets_bytes}
+use Rattle.link_model.specs.Standing.{Standing}
 
 -- all that was sent to start a session of the key, where nothing was asked
 abbrev pub start_of : Option StartKeyOf → List ℕ

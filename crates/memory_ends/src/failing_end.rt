@@ -1,6 +1,6 @@
 //! An end that fails from one of its calls on.
 ghost use Rattle.std.specs.Prelude.{◌≡◌, ◌<◌, ◌-◌, [], length};
-ghost use Rattle.link_laws.specs.Standing.{Moves};
+ghost use Rattle.link_model.specs.Standing.{Moves};
 ghost use Rattle.memory_ends.specs.Failing.{Counts, Fails, IsCall, failing_client, failing_server};
 ghost use Rattle.server_end.specs.Moves.{ClientReads, ClientWrites, CountsRead, CountsWrite, IsWithin, moved};
 ghost use Rattle.memory_ends.specs.declared.failing_end.Calls.TheVariants.{Good};

@@ -18,10 +18,10 @@ use Rattle.session_laws.specs.Laws.{Reaches}
 use Rattle.session_laws.proofs.ByName.{fresh_is_reached}
 use Rattle.session_run_laws.proofs.ByName.{client_frames_are_sent, run_replies_are_frames}
 use Rattle.credentials.specs.Credentials.{CredentialOf}
-use Rattle.link_laws.specs.Standing.{ClientFacts, Moves, Standing}
-use Rattle.link_laws.specs.Stages as stages
-use Rattle.link_laws.specs.Dialogues.{start_error}
-use Rattle.link_laws.proofs.Splits.{SplitsOff, same_back, split_whole}
+use Rattle.link_model.specs.Standing.{ClientFacts, Moves, Standing}
+use Rattle.link_model.specs.Stages as stages
+use Rattle.link_model.specs.Dialogues.{start_error}
+use Rattle.link_model.proofs.Splits.{SplitsOff, same_back, split_whole}
 use Rattle.link_start.specs.Links.{LinkView, IsFreshLink}
 use Rattle.link_start.specs.Starts.{CanStart, HasTried, IsStartCause, IsLetIn, IsStartable, IsStarted, IsRefusalOf}
 use Rattle.link_start.specs.declared.start.StartCause.{StartCause}
@@ -29,11 +29,11 @@ use Rattle.link_start.specs.declared.start.StartCause.TheVariants as cause
 use Rattle.message_view.specs.declared.refusal.Refusal.TheVariants.{ServerNotReached}
 use Rattle.relay_core.specs.Leases.{RelayView, Place, place, IsLease, IsAllowed, IsLinkOver, Keeps}
 use Rattle.relay_core.proofs.Exact.{lease_allowed, spared_service}
-use Rattle.link_laws.specs.Standing.{marks_since}
+use Rattle.link_model.specs.Standing.{marks_since}
 use Rattle.relay_core.specs.Answers.{AtBorder, EndsByClient, RefusedBy}
 use Rattle.relay_core.specs.Steps.{IsStuck}
 use Rattle.relay_core.specs.Returns.{is_clear}
-use Rattle.link_laws.specs.Futures.{future}
+use Rattle.link_model.specs.Futures.{future}
 use Rattle.memory_ends.specs.Servers.{has_some}
 use Rattle.memory_lease.specs.Answers.{IsAnswer, IsGiven as IsGivenOf, IsRefusedAt, MayDie, own_pieces}
 use Rattle.memory_lease.specs.declared.alone.Ending.{Ending}

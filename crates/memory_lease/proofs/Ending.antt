@@ -6,9 +6,9 @@ use Rattle.message_view.specs.declared.KeyWord.{KeyWord}
 use Rattle.message_view.specs.Refusals.{Begins}
 use Rattle.session_values.specs.State.{StartKeyOf}
 use Rattle.credentials.specs.Credentials.{CredentialOf}
-use Rattle.link_laws.specs.Stages.{packets_bytes}
-use Rattle.link_laws.specs.Standing.{Standing}
-use Rattle.link_laws.specs.Dialogues.{start_packets}
+use Rattle.link_model.specs.Stages.{packets_bytes}
+use Rattle.link_model.specs.Standing.{Standing}
+use Rattle.link_model.specs.Dialogues.{start_packets}
 use Rattle.link_start.specs.Links.{LinkView}
 use Rattle.link_start.specs.Starts.{IsStarted}
 use Rattle.relay_core.specs.Leases.{RelayView, Place, place, IsLease, IsAllowed, Keeps}

@@ -6,8 +6,8 @@ use Rattle.message_view.specs.declared.refusal.Refusal.{Refusal}
 use Rattle.message_view.specs.declared.refusal.Refusal.TheVariants.{OutOfMemory}
 use Rattle.session_values.specs.State.{StartKeyOf}
 use Rattle.credentials.specs.Credentials.{CredentialOf}
-use Rattle.link_laws.specs.Standing.{Standing}
-use Rattle.link_laws.specs.Dialogues.{auth_of}
+use Rattle.link_model.specs.Standing.{Standing}
+use Rattle.link_model.specs.Dialogues.{auth_of}
 use Rattle.link_start.specs.Refusing.{refusal_of}
 use Rattle.link_start.specs.Starts.{HasTried, IsStartCause, IsLost, IsUnanswerable, waits_of}
 use Rattle.link_start.specs.declared.start.StartCause.{StartCause}

@@ -10,7 +10,7 @@ use Rattle.frame_view.specs.Frames.{AreBytes, FrameOf, IsFrame, front, spelling}
 use Rattle.message_view.specs.Refusals.{Begins}
 use Rattle.session_values.specs.State.{CatalogueOf, StartKeyOf}
 use Rattle.session_values.specs.Service.{service}
-use Rattle.link_laws.specs.Futures.{future}
+use Rattle.link_model.specs.Futures.{future}
 use Rattle.relay_flow.specs.Parts.{is_stuck}
 use Rattle.relay_flow.specs.declared.flow.Ends.{Ends}
 use Rattle.relay_flow.specs.declared.flow.Ends.TheVariants.{Open, Last, Faulty}

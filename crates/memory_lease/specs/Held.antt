@@ -3,7 +3,7 @@ use Rattle.std.specs.Prelude.{◌≡◌, ◌≢◌, ◌⊎◌, ℕ, Bool, true, 
 use Rattle.message_view.specs.declared.refusal.Refusal.{Refusal}
 use Rattle.message_view.specs.declared.refusal.Refusal.TheVariants.{OutOfMemory}
 use Rattle.message_view.specs.Refusals.{refusal}
-use Rattle.link_laws.specs.Futures.{future}
+use Rattle.link_model.specs.Futures.{future}
 use Rattle.link_start.specs.declared.start.StartCause.{StartCause}
 use Rattle.link_start.specs.declared.start.StartRefusal.{StartRefusal}
 use Rattle.link_start.specs.declared.start.StartRefusal.TheVariants as told

@@ -1,6 +1,6 @@
 -- The stand-in server of one client, as its callers see it.
 use Rattle.std.specs.Prelude.{◌≡◌, ℕ, List, ◌∷◌, Option, Some, None}
-use Rattle.link_laws.specs.Standing.{Standing}
+use Rattle.link_model.specs.Standing.{Standing}
 
 pub record OwnOf : Type 0 where
   pub standing : Standing

@@ -1,6 +1,6 @@
 -- A client in memory that waits for its answers, as its callers see it.
 use Rattle.std.specs.Prelude.{◌≡◌, ℕ, Bool, true, false, ◌||◌, nat_lt, List, [], take}
-use Rattle.link_laws.specs.Standing.{ClientFacts}
+use Rattle.link_model.specs.Standing.{ClientFacts}
 use Rattle.memory_ends.specs.Clients.{given_with}
 
 pub record PatientOf : Type 0 where

@@ -3,9 +3,9 @@ use Rattle.std.specs.Prelude.{◌≡◌, ◌⊎◌, ◌+◌, ◌≤◌, ℕ, tru
 use Rattle.message_view.specs.Bodies.{Text}
 use Rattle.message_view.specs.Refusals.{Begins}
 use Rattle.session_values.specs.State.{StartKeyOf}
-use Rattle.link_laws.specs.Stages.{packets_bytes}
-use Rattle.link_laws.specs.Standing.{Standing}
-use Rattle.link_laws.specs.Dialogues.{auth_of, start_packets}
+use Rattle.link_model.specs.Stages.{packets_bytes}
+use Rattle.link_model.specs.Standing.{Standing}
+use Rattle.link_model.specs.Dialogues.{auth_of, start_packets}
 use Rattle.link_start.specs.Starts.{IsUnanswerable, waits_of}
 use Rattle.credentials.specs.Credentials.{CredentialOf}
 use Rattle.memory_ends.specs.Servers.{LAST_COUNT}

@@ -1,7 +1,7 @@
 //! The stand-in server of one client.
 ghost use Rattle.std.specs.Prelude.{◌≡◌, ◌<◌, [], length, true, false};
-ghost use Rattle.link_laws.specs.Futures.{future};
-ghost use Rattle.link_laws.specs.Standing.{Moves};
+ghost use Rattle.link_model.specs.Futures.{future};
+ghost use Rattle.link_model.specs.Standing.{Moves};
 ghost use Rattle.server_end.specs.Moves.{CountsRead, CountsWrite, IsWithin, moved};
 ghost use Rattle.memory_ends.specs.Servers.{LAST_COUNT, has_some};
 ghost use Rattle.memory_lease.specs.Own.{IsMarked, own_server};
@@ -29,7 +29,7 @@ impl Drop for OwnServer {
 
 impl Model for OwnServer {
     ghost use Rattle.std.specs.Prelude.{◌≡◌, true, []};
-    ghost use Rattle.link_laws.specs.Futures.{future};
+    ghost use Rattle.link_model.specs.Futures.{future};
     ghost use Rattle.memory_lease.specs.Own.{OwnOf, own_server};
 
     ghost Value = { OwnOf };

@@ -4,9 +4,9 @@ use Rattle.std.specs.Prelude.{IfOk}
 use Rattle.session_values.specs.State.{CatalogueOf, StartKeyOf, fresh}
 use Rattle.credentials.specs.Credentials.{CredentialOf}
 use Rattle.frame_view.specs.Frames.{FrameOf}
-use Rattle.link_laws.specs.Dialogues.{auth_of, start_error, start_refusal}
-use Rattle.link_laws.specs.Stages.{Auth, no_auth, Server}
-use Rattle.link_laws.specs.Standing.{Standing}
+use Rattle.link_model.specs.Dialogues.{auth_of, start_error, start_refusal}
+use Rattle.link_model.specs.Stages.{Auth, no_auth, Server}
+use Rattle.link_model.specs.Standing.{Standing}
 use Rattle.link_run.specs.Links.{LinkView}
 use Rattle.memory_ends.specs.Servers.{ServerOf, new_server}
 use Rattle.link_start.specs.Starts.{CanStartAll, IsStartCause, IsRefusalOf, IsStarted, own_answers}

@@ -6,9 +6,9 @@ use Rattle.ini_config.specs.Bounds.{AreWithinBounds}
 use Rattle.ini_config.specs.declared.option_values.Settings.{Settings}
 use Rattle.user_file.specs.Users.{UsersOf}
 use Rattle.session_values.specs.State.{CatalogueOf, StartKeyOf, fresh}
-use Rattle.link_laws.specs.Dialogues.{auth_of, start_error}
-use Rattle.link_laws.specs.Stages.{no_auth}
-use Rattle.link_laws.specs.Standing.{Standing}
+use Rattle.link_model.specs.Dialogues.{auth_of, start_error}
+use Rattle.link_model.specs.Stages.{no_auth}
+use Rattle.link_model.specs.Standing.{Standing}
 use Rattle.link_run.specs.Links.{LinkView}
 use Rattle.link_start.specs.Starts.{CanStartAll}
 use Rattle.link_start.specs.declared.start.StartCause.{StartCause}

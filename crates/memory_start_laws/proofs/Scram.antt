@@ -10,8 +10,8 @@ use Rattle.credentials.specs.Credentials.{CredentialOf, first_response, has_clie
 use Rattle.credentials.specs.Exchanges.{ExchangeOf, exchange_of, exchange_over}
 use Rattle.frame_view.specs.Frames.{FrameOf}
 use Rattle.session_values.specs.State.{fresh}
-use Rattle.link_laws.specs.Dialogues.{answer_message, start_error, start_refusal}
-use Rattle.link_laws.specs.Stages.{Round, asks, is_answer, let_in, wrong_password}
+use Rattle.link_model.specs.Dialogues.{answer_message, start_error, start_refusal}
+use Rattle.link_model.specs.Stages.{Round, asks, is_answer, let_in, wrong_password}
 use Rattle.link_run.specs.Dialogues.{offers_scram}
 use Rattle.link_run.specs.declared.sasl.TheConstants.{ASKS_SASL, SASL_CONTINUES, SASL_ENDS}
 use Rattle.link_start.specs.declared.start_reply.StartProgress.{StartProgress}

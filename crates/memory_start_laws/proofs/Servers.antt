@@ -8,7 +8,7 @@ use Rattle.user_file.specs.declared.secrets.Secret.{Secret}
 use Rattle.user_file.specs.declared.secrets.Secret.TheVariants as secrets
 use Rattle.user_file.specs.Secrets.{answer, answers_md5}
 use Rattle.credentials.specs.Credentials.{CredentialOf}
-use Rattle.link_laws.specs.Stages.{asks, asks_once, let_in}
+use Rattle.link_model.specs.Stages.{asks, asks_once, let_in}
 use Rattle.memory_ends.specs.declared.memory_server.ServerAuth.TheVariants.{Trust, Plain, Md5}
 use Rattle.link_start.specs.declared.start_reply.StartProgress.TheVariants.{Nothing, Asked, LetIn}
 use Rattle.link_start.specs.declared.start_reply.ServerQuestion.{ServerQuestion}

@@ -4,9 +4,9 @@ use Rattle.std.proofs.lemmas.Bool.{true≢false}
 use Rattle.message_view.specs.declared.kinds.TheConstants.{ASKS_NOTHING}
 use Rattle.message_view.specs.Reading.{authentication_of, int32_at}
 use Rattle.session_values.specs.State.{StartKeyOf}
-use Rattle.link_laws.specs.Stages.{let_in}
-use Rattle.link_laws.specs.Standing.{Standing, Moves}
-use Rattle.link_laws.proofs.Both.{none_since}
+use Rattle.link_model.specs.Stages.{let_in}
+use Rattle.link_model.specs.Standing.{Standing, Moves}
+use Rattle.link_model.proofs.Both.{none_since}
 use Rattle.link_run.specs.Dialogues.{IsStartAnswer, Trusts}
 use Rattle.link_run.specs.Receipts.{HasStarted, by_start}
 use Rattle.memory_ends.specs.Gone.{shortest_welcome, start_of, welcome_of}

@@ -5,8 +5,8 @@ use Rattle.credentials.specs.Credentials.{CredentialOf, first_response}
 use Rattle.credentials.specs.Exchanges.{ExchangeOf, exchange_of}
 use Rattle.session_values.specs.Lawful.{IsLawfulCatalogue}
 use Rattle.session_values.specs.State.{StartKeyOf}
-use Rattle.link_laws.specs.Dialogues.{AsksInFrame}
-use Rattle.link_laws.specs.Stages.{Server as TheServer, Auth, Question, Round}
+use Rattle.link_model.specs.Dialogues.{AsksInFrame}
+use Rattle.link_model.specs.Stages.{Server as TheServer, Auth, Question, Round}
 use Rattle.memory_ends.specs.Servers.{new_server}
 use Rattle.link_run.specs.Dialogues.{offers_scram}
 use Rattle.link_run.specs.declared.sasl.TheConstants.{ASKS_SASL, SASL_CONTINUES, SASL_ENDS}

@@ -2,8 +2,8 @@
 use Rattle.std.specs.Prelude.{◌≡◌, ℕ, false, length, [], Option, None, Some}
 use Rattle.session_values.specs.Lawful.{IsLawfulCatalogue}
 use Rattle.session_values.specs.State.{StartKeyOf}
-use Rattle.link_laws.specs.Stages.{Server as TheServer}
-use Rattle.link_laws.specs.Standing.{Standing}
+use Rattle.link_model.specs.Stages.{Server as TheServer}
+use Rattle.link_model.specs.Standing.{Standing}
 use Rattle.memory_ends.specs.declared.memory_server.ServerAuth.{ServerAuth}
 use Rattle.memory_ends.specs.declared.memory_server.ServerAuth.TheVariants.{Trust, Plain, Md5}
 use Rattle.memory_ends.specs.Gone.{start_of, welcome_of}

@@ -7,7 +7,7 @@ use crate::told::{put_bytes, put_unless};
 use link_run::links::CleanLink;
 use memory_ends::memory_client::MemoryClient;
 use relay_core::relay::{Relay, Returned};
-use relay_laws::Next;
+use relay_model::Next;
 use server_end::gate::Ready;
 use server_end::{ClientEnd, ServerEnd};
 use std::alloc::{AllocError, Global};

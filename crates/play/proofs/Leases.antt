@@ -16,9 +16,9 @@ use Rattle.session_values.specs.Service.{client_frames, served, service, welcome
 use Rattle.session_laws.specs.Laws.{Reaches}
 use Rattle.session_laws.proofs.ByName.{fresh_is_reached}
 use Rattle.session_run_laws.proofs.ByName.{client_frames_are_sent, run_replies_are_frames}
-use Rattle.link_laws.specs.Standing.{ClientFacts, marks_since}
-use Rattle.link_laws.specs.Dialogues.{start_error}
-use Rattle.link_laws.proofs.Splits.{SplitsOff, same_back, split_whole}
+use Rattle.link_model.specs.Standing.{ClientFacts, marks_since}
+use Rattle.link_model.specs.Dialogues.{start_error}
+use Rattle.link_model.proofs.Splits.{SplitsOff, same_back, split_whole}
 use Rattle.link_run.specs.Links.{IsFreshLink, LinkView}
 use Rattle.login_core.specs.Talk.End.{Passed}
 use Rattle.login_core.specs.Dialogue.{ToLink, login_among}
@@ -27,9 +27,9 @@ use Rattle.login_core.proofs.Telling.{service_is}
 use Rattle.memory_ends.proofs.Whose.{Apart, whose}
 use Rattle.session_run_laws.proofs.Pieces.{pieces_join, pieces_of_both}
 use Rattle.session_run_laws.proofs.Service.{begins_both, service_on}
-use Rattle.relay_laws.specs.Leases.{IsAllowed, IsLease, Keeps, Place, RelayView, place}
-use Rattle.relay_laws.proofs.Exact.{lease_allowed, spared_service}
-use Rattle.relay_laws.specs.Answers.{AtBorder}
+use Rattle.relay_model.specs.Leases.{IsAllowed, IsLease, Keeps, Place, RelayView, place}
+use Rattle.relay_model.proofs.Exact.{lease_allowed, spared_service}
+use Rattle.relay_model.specs.Answers.{AtBorder}
 use Rattle.act_client.specs.Clients.{ActClientOf, facts_of, given_more}
 use Rattle.memory_ends.specs.Clients.{given_with}
 use Rattle.memory_pool.specs.MemoryPools.{MemoryPoolOf, IsAtHome, IsServerOf, IsStartError}

@@ -10,7 +10,7 @@ use memory_ends::memory_server::MemoryServer;
 use memory_pool::MemoryPool;
 use message_view::KeyWord;
 use relay_core::relay::{Relay, Returned};
-use relay_laws::Next;
+use relay_model::Next;
 use server_end::gate::Ready;
 use server_end::{ClientEnd, ServerEnd};
 use std::alloc::AllocError;

@@ -1,7 +1,7 @@
 -- A client that asks again for its link.
 use Rattle.std.proofs.Common.{◌≡◌, inl, inr, true, refl, sym, ap, ◌∙◌, arith, subst}
 use Rattle.std.proofs.lemmas.Bool.{true≢false}
-use Rattle.link_laws.specs.Standing.{ClientFacts}
+use Rattle.link_model.specs.Standing.{ClientFacts}
 use Rattle.link_desk.specs.declared.answers.Gone.{Gone}
 use Rattle.link_desk.specs.declared.answers.Gone.TheVariants as gone
 use Rattle.link_desk.specs.declared.calls.Holder.{Holder}

@@ -18,19 +18,19 @@ use Rattle.session_values.specs.Service.{client_frames, served, service, welcome
 use Rattle.session_laws.specs.Laws.{IsSent, Reaches}
 use Rattle.session_laws.proofs.ByName.{fresh_is_reached}
 use Rattle.session_run_laws.proofs.ByName.{run_replies_are_frames, runs_go_on}
-use Rattle.link_laws.specs.Standing.{ClientFacts, marks_since}
-use Rattle.link_laws.proofs.ByName.{spared_are_unstruck}
-use Rattle.link_laws.proofs.Splits.{SplitsOff, same_back, split_whole}
+use Rattle.link_model.specs.Standing.{ClientFacts, marks_since}
+use Rattle.link_model.proofs.ByName.{spared_are_unstruck}
+use Rattle.link_model.proofs.Splits.{SplitsOff, same_back, split_whole}
 use Rattle.link_run.specs.Links.{IsFreshLink, LinkView}
 use Rattle.login_core.specs.Laws.{ServiceIsItsPieces}
 use Rattle.login_core.specs.Solo.{service_pieces}
 use Rattle.login_run.specs.Laws.{IsAtPiece}
 use Rattle.session_run_laws.proofs.Pieces.{pieces_join, pieces_of_both}
 use Rattle.relay_flow.proofs.Parting.{opens_stops}
-use Rattle.relay_laws.specs.Laws.{LeasesAreAllowed}
-use Rattle.relay_laws.specs.Leases.{IsAllowed, IsLease, Keeps, Place, RelayView, place}
-use Rattle.relay_laws.proofs.Exact.{all-sent}
-use Rattle.relay_laws.specs.Answers.{AtBorder, RefusedBy}
+use Rattle.relay_model.specs.Laws.{LeasesAreAllowed}
+use Rattle.relay_model.specs.Leases.{IsAllowed, IsLease, Keeps, Place, RelayView, place}
+use Rattle.relay_model.proofs.Exact.{all-sent}
+use Rattle.relay_model.specs.Answers.{AtBorder, RefusedBy}
 use Rattle.pool_serve.specs.FinalMessages.{or_nothing}
 use Rattle.pool_serve.specs.Serving.{AreMarksOf, Serves}
 use Rattle.pool_serve.proofs.Causing.{relay_fault}

@@ -3,7 +3,7 @@ use Rattle.std.proofs.Common.{◌≡◌, ◌⊎◌, ℕ, List, [], inl, inr, ref
 use Rattle.std.proofs.lemmas.Bool.{true≢false}
 use Rattle.message_view.specs.declared.KeyWord.{KeyWord}
 use Rattle.message_view.specs.declared.views.KeyView.{KeyView}
-use Rattle.link_laws.specs.Standing.{ClientFacts}
+use Rattle.link_model.specs.Standing.{ClientFacts}
 use Rattle.link_desk.specs.declared.answers.Cancelled.{Cancelled}
 use Rattle.link_desk.specs.declared.answers.Cancelled.TheVariants as cancelled
 use Rattle.link_desk.specs.declared.calls.Holder.{Holder}

@@ -15,11 +15,11 @@ use Rattle.link_desk.specs.Passes.{PassOf, after_leaving, after_loss, after_refu
 use Rattle.link_desk.specs.Refusing.{RefusesArrival, RefusesAsking, RefusesGrant}
 use Rattle.link_desk.specs.declared.answers.Gone.{Gone}
 use Rattle.link_desk.specs.declared.answers.Gone.TheVariants as gone
-use Rattle.relay_laws.specs.Leases.{IsLease, Place, RelayView}
-use Rattle.relay_laws.specs.Answers.{RefusedBy, is_done, is_quiet, judged, quiet_next, refusal_by, refusal_of, refused}
-use Rattle.relay_laws.specs.declared.Next.{Next}
-use Rattle.relay_laws.specs.Faults.{IsAtFault}
-use Rattle.relay_laws.proofs.Faults.{client_fault}
+use Rattle.relay_model.specs.Leases.{IsLease, Place, RelayView}
+use Rattle.relay_model.specs.Answers.{RefusedBy, is_done, is_quiet, judged, quiet_next, refusal_by, refusal_of, refused}
+use Rattle.relay_model.specs.declared.Next.{Next}
+use Rattle.relay_model.specs.Faults.{IsAtFault}
+use Rattle.relay_model.proofs.Faults.{client_fault}
 use Rattle.pool_serve.specs.declared.ending.Ending.{Ending}
 use Rattle.pool_serve.specs.declared.ending.Ending.TheVariants as ending
 use Rattle.pool_serve.specs.declared.final_message.FinalMessage.TheVariants as last
@@ -28,7 +28,7 @@ use Rattle.pool_serve.specs.Shares as shares
 use Rattle.pool_serve.specs.Causes.{HadLink, HadNone, HasFault, HasLost, IsFaulty, IsFaultyWord, IsTurnedAway, Since, AtArrival, AtAsking, AtLease, AtWait, of_wait, HasTrace, WordHasTrace}
 use Rattle.pool_serve.specs.Endings.{HasRelayed, IsUnopened, Traces, refusal_at, refusal_told}
 use Rattle.link_run.specs.Links.{LinkView}
-use Rattle.link_laws.specs.Standing.{ClientFacts}
+use Rattle.link_model.specs.Standing.{ClientFacts}
 use Rattle.link_desk.specs.Homes.{HomeOf}
 use Rattle.login_core.specs.Logins.{LoginView}
 use Rattle.pool_serve.specs.Stays.{CameIn}

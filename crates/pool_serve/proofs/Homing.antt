@@ -1,14 +1,14 @@
 -- Links stay at home.
 use Rattle.std.proofs.Common.{◌≡◌, ℕ, sym, ap, ◌∙◌, subst}
 use Rattle.session_values.specs.State.{StartKeyOf, address_of}
-use Rattle.link_laws.specs.Standing.{ClientFacts, Standing}
-use Rattle.link_laws.specs.Stages as stages
+use Rattle.link_model.specs.Standing.{ClientFacts, Standing}
+use Rattle.link_model.specs.Stages as stages
 use Rattle.link_run.specs.Links.{LinkView}
 use Rattle.link_desk.specs.Homes.{HomeOf, IsAtHome, IsDialled}
 use Rattle.link_start.specs.Starts.{IsStarted}
 use Rattle.credentials.specs.Credentials.{CredentialOf}
 use Rattle.message_view.specs.declared.KeyWord.{KeyWord}
-use Rattle.relay_laws.specs.Leases.{RelayView, IsLease, place}
+use Rattle.relay_model.specs.Leases.{RelayView, IsLease, place}
 use Rattle.relay_core.specs.declared.relay.Returned.{Returned}
 use Rattle.relay_core.specs.declared.relay.Returned.TheVariants.{Unused, Used, Gone}
 use Rattle.relay_core.specs.Returns.{IsReturned, IsThatLink}

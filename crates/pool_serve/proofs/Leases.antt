@@ -1,7 +1,7 @@
 -- How a client's time at the desk ends.
 use Rattle.std.proofs.Common.{◌≡◌, inl, inr, ℕ, refl, sym, ◌∙◌, arith, subst, None}
 use Rattle.std.specs.Arc.{arc_value}
-use Rattle.link_laws.specs.Standing.{ClientFacts}
+use Rattle.link_model.specs.Standing.{ClientFacts}
 use Rattle.link_run.specs.Links.{LinkView}
 use Rattle.link_desk.specs.declared.calls.Call.{Call}
 use Rattle.link_desk.specs.declared.calls.Call.TheVariants as call

@@ -11,7 +11,7 @@ use Rattle.ini_config.specs.declared.database_rows.DbRow.{DbRow}
 use Rattle.ini_config.specs.declared.option_values.Settings.{Settings}
 use Rattle.user_file.specs.Users.{UsersOf, user_named}
 use Rattle.session_values.specs.State.{Address, CatalogueOf, StartKeyOf}
-use Rattle.link_laws.specs.Standing.{ClientFacts}
+use Rattle.link_model.specs.Standing.{ClientFacts}
 use Rattle.login_core.specs.Talk.End.{Stopped as StoppedFor}
 use Rattle.login_core.specs.Dialogue.{Refused as RefusedBy, Rows, login_among, row_in}
 use Rattle.login_core.specs.Logins.{LoginView, RevealsTo, names_user, rows_of}

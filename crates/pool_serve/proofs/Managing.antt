@@ -6,7 +6,7 @@ use Rattle.message_view.specs.declared.KeyWord.{KeyWord}
 use Rattle.message_view.specs.declared.refusal.Refusal.{Refusal}
 use Rattle.message_view.specs.Refusals.{joined_pieces}
 use Rattle.ini_config.specs.declared.option_values.Settings.{Settings}
-use Rattle.link_laws.specs.Standing.{ClientFacts}
+use Rattle.link_model.specs.Standing.{ClientFacts}
 use Rattle.login_core.specs.Talk.End.{Passed as PassedWith}
 use Rattle.login_core.proofs.Pieces.{joined_if_any}
 use Rattle.login_core.specs.Dialogue.{Rows, ToConsole, login_among}

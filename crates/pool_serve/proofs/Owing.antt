@@ -11,8 +11,8 @@ use Rattle.session_values.specs.declared.cause.Cause.{Cause}
 use Rattle.session_values.specs.State.{Address, CatalogueOf, State, StartKeyOf, address_of, fresh}
 use Rattle.session_values.specs.Service.{client_frames, served}
 use Rattle.credentials.specs.Credentials.{CredentialOf}
-use Rattle.link_laws.specs.Standing.{ClientFacts, Standing}
-use Rattle.link_laws.specs.Dialogues.{start_error}
+use Rattle.link_model.specs.Standing.{ClientFacts, Standing}
+use Rattle.link_model.specs.Dialogues.{start_error}
 use Rattle.link_run.specs.Links.{LinkView}
 use Rattle.link_desk.specs.Homes.{HomeOf, IsAtHome}
 use Rattle.link_start.specs.Starts.{IsStartCause, IsLetIn, IsRefusalOf}

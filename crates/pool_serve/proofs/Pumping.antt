@@ -2,11 +2,11 @@
 use Rattle.std.proofs.Common.{◌≡◌, ◌⊎◌, inl, inr, Bool, refl, sym, ap, ◌∙◌, subst}
 use Rattle.std.specs.Prelude.{IfSome}
 use Rattle.message_view.specs.declared.refusal.Refusal.{Refusal}
-use Rattle.relay_laws.specs.Answers.{AtBorder, RefusedBy, judged, phase_after}
-use Rattle.relay_laws.specs.Leases.{IsLease, Keeps, Place, RelayView}
-use Rattle.relay_laws.specs.declared.Next.{Next}
-use Rattle.relay_laws.specs.declared.Next.TheVariants.{Again, Wait, ClientDone, Refuse, Closed}
-use Rattle.relay_laws.specs.declared.Phase.TheVariants.{Running}
+use Rattle.relay_model.specs.Answers.{AtBorder, RefusedBy, judged, phase_after}
+use Rattle.relay_model.specs.Leases.{IsLease, Keeps, Place, RelayView}
+use Rattle.relay_model.specs.declared.Next.{Next}
+use Rattle.relay_model.specs.declared.Next.TheVariants.{Again, Wait, ClientDone, Refuse, Closed}
+use Rattle.relay_model.specs.declared.Phase.TheVariants.{Running}
 use Rattle.pool_serve.specs.Endings.{refusal_at, refusal_told}
 use Rattle.pool_serve.proofs.Causing.{told_by_pump}
 

@@ -3,7 +3,7 @@ use Rattle.std.proofs.Common.{◌≡◌, inl, inr, ℕ, Bool, true, List, [], �
 use Rattle.std.proofs.lemmas.Grind.{flat_map-append}
 use Rattle.message_view.specs.Refusals.{joined_pieces, refusal}
 use Rattle.session_values.specs.State.{Address, CatalogueOf}
-use Rattle.link_laws.specs.Standing.{ClientFacts}
+use Rattle.link_model.specs.Standing.{ClientFacts}
 use Rattle.link_desk.specs.Passes.{PassOf}
 use Rattle.login_core.specs.Logins.{LoginView}
 use Rattle.login_run.specs.Laws.{AllowedBy, IsRefusedByLogin, own}

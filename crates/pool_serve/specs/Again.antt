@@ -1,7 +1,7 @@
 -- A client that asks again for a link, after its server had no place for one.
 use Rattle.std.specs.Prelude.{◌≡◌, ◌||◌, Bool, true, false, None, Some, bytes_eq, codes}
 use Rattle.std.specs.Arc.{arc_value}
-use Rattle.link_laws.specs.Standing.{ClientFacts}
+use Rattle.link_model.specs.Standing.{ClientFacts}
 use Rattle.link_start.specs.declared.start.StartCause.{StartCause}
 use Rattle.link_start.specs.declared.start.StartCause.TheVariants as cause
 use Rattle.link_desk.specs.declared.answers.Gone.{Gone}

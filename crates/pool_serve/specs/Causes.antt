@@ -5,7 +5,7 @@ use Rattle.message_view.specs.declared.refusal.Refusal.{Refusal}
 use Rattle.message_view.specs.declared.refusal.Refusal.TheVariants.{TooManyClients, MalformedClientMessage, WaitedTooLong, ServerFailed, ServerNotReached, ShuttingDown, OutOfMemory, ClientMessageTooLong, MalformedServerMessage, LastDecision}
 use Rattle.session_values.specs.State.{StartKeyOf}
 use Rattle.link_desk.specs.Passes.{PassOf}
-use Rattle.relay_laws.specs.Faults.{IsAtFault}
+use Rattle.relay_model.specs.Faults.{IsAtFault}
 use Rattle.login_core.specs.Talk.End.{Passed}
 use Rattle.login_core.specs.Dialogue.{Rows, ToLink, login_among}
 use Rattle.login_core.specs.Logins.{LoginView, rows_of}

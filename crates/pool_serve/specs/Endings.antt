@@ -4,7 +4,7 @@ use Rattle.std.specs.Arc.{arc_value}
 use Rattle.user_file.specs.declared.secrets.Secret.{Secret}
 use Rattle.message_view.specs.declared.refusal.Refusal.{Refusal}
 use Rattle.session_values.specs.State.{address_of}
-use Rattle.link_laws.specs.Standing.{ClientFacts, Standing}
+use Rattle.link_model.specs.Standing.{ClientFacts, Standing}
 use Rattle.link_run.specs.Links.{LinkView}
 use Rattle.credentials.specs.Credentials.{credential_of, start_nonce}
 use Rattle.link_start.specs.Starts.{HasTried, IsStartCause}
@@ -15,10 +15,10 @@ use Rattle.link_desk.specs.declared.calls.Call.TheVariants as call
 use Rattle.link_desk.specs.declared.calls.Holder.{Holder}
 use Rattle.link_desk.specs.Homes.{HomeOf, IsAtHome, IsDialled}
 use Rattle.link_desk.specs.Passes.{PassOf}
-use Rattle.relay_laws.specs.declared.Next.{Next}
-use Rattle.relay_laws.specs.declared.Next.TheVariants.{Refuse}
-use Rattle.relay_laws.specs.Answers.{judged}
-use Rattle.relay_laws.specs.Leases.{IsLease, RelayView, place}
+use Rattle.relay_model.specs.declared.Next.{Next}
+use Rattle.relay_model.specs.declared.Next.TheVariants.{Refuse}
+use Rattle.relay_model.specs.Answers.{judged}
+use Rattle.relay_model.specs.Leases.{IsLease, RelayView, place}
 use Rattle.pool_serve.specs.Backs.{IsBackOrLost, IsFreed}
 use Rattle.pool_serve.specs.Causes.{HadLink, HadNone, HasLost, HasTrace, Since}
 use Rattle.pool_serve.specs.LinkSecrets.{link_secret}

@@ -1,6 +1,6 @@
 -- A client's whole time with a worker.
 use Rattle.std.specs.Prelude.{◌≡◌, ◌⊎◌, ℕ, Bool, List, Option}
-use Rattle.link_laws.specs.Standing.{ClientFacts}
+use Rattle.link_model.specs.Standing.{ClientFacts}
 use Rattle.message_view.specs.declared.refusal.Refusal.{Refusal}
 use Rattle.link_start.specs.declared.start.StartCause.{StartCause}
 use Rattle.book_model.specs.declared.events.Beyond.{Beyond}

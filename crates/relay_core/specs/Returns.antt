@@ -2,12 +2,12 @@
 use Rattle.std.specs.Prelude.{◌≡◌, ◌≢◌, Bool, true, false, ◌&&◌, not}
 use Rattle.disposal.specs.declared.Verdict.TheVariants.{Settled}
 use Rattle.std.specs.Arc.{arc_value}
-use Rattle.link_laws.specs.Standing.{Standing}
+use Rattle.link_model.specs.Standing.{Standing}
 use Rattle.link_run.specs.Links.{LinkView}
 use Rattle.link_run.specs.declared.links.LinkParts.{LinkParts}
-use Rattle.relay_laws.specs.Leases.{RelayView, relay_verdict}
+use Rattle.relay_model.specs.Leases.{RelayView, relay_verdict}
 use Rattle.relay_flow.specs.Flows.{is_empty, is_faulty}
-use Rattle.relay_laws.specs.Answers.{is_quiet}
+use Rattle.relay_model.specs.Answers.{is_quiet}
 use Rattle.relay_core.specs.declared.relay.GoneCause.{GoneCause}
 use Rattle.relay_core.specs.declared.relay.GoneCause.TheVariants.{Left, Lost}
 use Rattle.relay_core.specs.declared.relay.Returned.{Returned}

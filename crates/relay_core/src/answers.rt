@@ -1,13 +1,13 @@
 //! What a pump answers, by where the relay stands after its moves.
 ghost use Rattle.std.specs.Prelude.{◌≡◌};
 ghost use Rattle.relay_flow.specs.Flows.{is_empty};
-ghost use Rattle.relay_laws.specs.Answers.{border_next, is_done, is_quiet, judged, moved_or, phase_after as after, quiet_next, refusal_of};
+ghost use Rattle.relay_model.specs.Answers.{border_next, is_done, is_quiet, judged, moved_or, phase_after as after, quiet_next, refusal_of};
 
 use crate::relay::Relay;
 use frame_view::FrameError;
 use message_view::Refusal;
 use relay_flow::flow::Ends;
-use relay_laws::{Next, Phase};
+use relay_model::{Next, Phase};
 use server_end::{ClientEnd, ServerEnd};
 
 /// Wait where nothing was moved.

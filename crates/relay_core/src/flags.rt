@@ -1,9 +1,9 @@
 //! What an end's answer changes of what is known of the ends.
 ghost use Rattle.std.specs.Prelude.{◌≡◌, ◌+◌, ◌<◌, false, true};
 ghost use Rattle.relay_flow.specs.Flows.{count_of};
-ghost use Rattle.relay_laws.specs.Leases.{any_over, client_read, client_wrote, counts, is_end as ends, is_fault as faults, link_moved};
+ghost use Rattle.relay_model.specs.Leases.{any_over, client_read, client_wrote, counts, is_end as ends, is_fault as faults, link_moved};
 
-use relay_laws::Flags;
+use relay_model::Flags;
 use server_end::Moved;
 
 /// How many bytes were moved.

@@ -1,8 +1,8 @@
 //! The four moves of a pump: each end is read once, and written once.
 ghost use Rattle.std.specs.Prelude.{◌≡◌, true, false};
 ghost use Rattle.relay_flow.specs.Flows.{is_empty};
-ghost use Rattle.relay_laws.specs.Leases.{Keeps};
-ghost use Rattle.relay_laws.specs.Steps.{IsStuck, IsStuckClient, may_read_client, may_read_link, may_write_client, may_write_link, ReadsClient, ReadsLink, WritesClient, WritesLink};
+ghost use Rattle.relay_model.specs.Leases.{Keeps};
+ghost use Rattle.relay_model.specs.Steps.{IsStuck, IsStuckClient, may_read_client, may_read_link, may_write_client, may_write_link, ReadsClient, ReadsLink, WritesClient, WritesLink};
 
 use crate::flags::{any_over, client_read, client_wrote, count_moved, link_moved};
 use crate::relay::Relay;

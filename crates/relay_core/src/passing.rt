@@ -1,7 +1,7 @@
 //! Which of the bytes that came go on, frame by frame, and what is told of each frame that went.
 ghost use Rattle.std.specs.Prelude.{◌≡◌, ◌<◌, length, true, false};
-ghost use Rattle.relay_laws.specs.Leases.{Keeps};
-ghost use Rattle.relay_laws.specs.Steps.{IsStuck, IsStuckClient, OnlyToClient, OnlyToLink, stops_here};
+ghost use Rattle.relay_model.specs.Leases.{Keeps};
+ghost use Rattle.relay_model.specs.Steps.{IsStuck, IsStuckClient, OnlyToClient, OnlyToLink, stops_here};
 
 use crate::last_note::hear;
 use crate::relay::Relay;

@@ -15,7 +15,7 @@ use link_run::welcome::welcome_over;
 use message_view::KeyWord;
 use relay_flow::buffers::Buffers;
 use relay_flow::flow::Flow;
-use relay_laws::{Flags, Next, Phase};
+use relay_model::{Flags, Next, Phase};
 use server_end::gate::{Counts, Ready};
 use server_end::{ClientEnd, ServerEnd};
 use std::alloc::Global;
@@ -45,7 +45,7 @@ pub enum Returned<E: ServerEnd> {
 ///
 /// The client is given the welcome first, and then the server's frames; the link is given the client's frames, in their order
 /// and unchanged. Client's Terminate stays here. Contracts see the ends' facts, the two buffers, the counts and the flags;
-/// that some lease is under way (`IsLease`) is the type's invariant, and the laws of `relay_laws` say what follows from it.
+/// that some lease is under way (`IsLease`) is the type's invariant, and the laws of `relay_model` say what follows from it.
 pub struct Relay<C: ClientEnd, E: ServerEnd> {
     pub(crate) client: C,
     pub(crate) link: LinkParts<E>,
@@ -81,8 +81,8 @@ impl<C: ClientEnd, E: ServerEnd> Drop for Relay<C, E> {
 impl<C: ClientEnd, E: ServerEnd> Model for Relay<C, E> {
     ghost use Rattle.std.specs.Prelude.{◌≤◌, drop, length};
     ghost use Rattle.std.specs.Arc.{arc_value};
-    ghost use Rattle.relay_laws.specs.Leases.{RelayView, relay_view, IsRelay};
-    ghost use Rattle.relay_laws.specs.Verdicts.{told_of};
+    ghost use Rattle.relay_model.specs.Leases.{RelayView, relay_view, IsRelay};
+    ghost use Rattle.relay_model.specs.Verdicts.{told_of};
 
     ghost Value = { RelayView };
 
@@ -93,12 +93,12 @@ impl<C: ClientEnd, E: ServerEnd> Model for Relay<C, E> {
 
 impl<C: ClientEnd, E: ServerEnd> Relay<C, E> {
     ghost use Rattle.std.specs.Prelude.{Bool};
-    ghost use Rattle.relay_laws.specs.Leases.{Place, place, IsLease, IsRelayExact, IsAllowed, Keeps, relay_verdict, at_border};
-    ghost use Rattle.relay_laws.specs.Answers.{EndsByClient, RefusedBy, AtBorder, IsCut, judged, phase_after};
+    ghost use Rattle.relay_model.specs.Leases.{Place, place, IsLease, IsRelayExact, IsAllowed, Keeps, relay_verdict, at_border};
+    ghost use Rattle.relay_model.specs.Answers.{EndsByClient, RefusedBy, AtBorder, IsCut, judged, phase_after};
     ghost use Rattle.relay_core.specs.Returns.{IsReturned, is_clear};
-    ghost use Rattle.relay_laws.specs.Steps.{bytes_moved, HoldsAll, IsOnce, LeavesSides, StopsLink, Waits};
-    ghost use Rattle.relay_laws.specs.declared.Next.TheVariants.{Again, Wait, ClientDone, Refuse, Closed};
-    ghost use Rattle.relay_laws.specs.declared.Phase.TheVariants.{Running, Done, Shut};
+    ghost use Rattle.relay_model.specs.Steps.{bytes_moved, HoldsAll, IsOnce, LeavesSides, StopsLink, Waits};
+    ghost use Rattle.relay_model.specs.declared.Next.TheVariants.{Again, Wait, ClientDone, Refuse, Closed};
+    ghost use Rattle.relay_model.specs.declared.Phase.TheVariants.{Running, Done, Shut};
     ghost use Rattle.message_view.specs.declared.refusal.Refusal.{Refusal};
 
     /// The lease of a link to a client begins, with buffers of its own, as [`Relay::begin_over`] says. Memory for them is taken here too.

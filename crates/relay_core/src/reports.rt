@@ -5,7 +5,7 @@ ghost use Rattle.link_run.specs.Dialogues.{names_kept};
 ghost use Rattle.link_run.specs.Links.{told_by};
 ghost use Rattle.message_view.specs.Reading.{status_of};
 ghost use Rattle.relay_flow.specs.declared.parts.TheConstants as parts;
-ghost use Rattle.relay_laws.specs.Verdicts.{IsRead};
+ghost use Rattle.relay_model.specs.Verdicts.{IsRead};
 
 use frame_view::server::PARAMETER_STATUS;
 use message_view::StatusView;

@@ -3,7 +3,7 @@ ghost use Rattle.std.specs.Prelude.{◌≡◌, ◌≢◌, ◌≤◌, None, false
 ghost use Rattle.disposal.specs.Tallies.{may_end};
 ghost use Rattle.disposal.specs.declared.TheConstants.{FULL};
 ghost use Rattle.disposal.specs.declared.Verdict.TheVariants.{Settled};
-ghost use Rattle.relay_laws.specs.Verdicts.{begun_arrived, told_arrived, told_sent, verdict_by};
+ghost use Rattle.relay_model.specs.Verdicts.{begun_arrived, told_arrived, told_sent, verdict_by};
 
 use disposal::{Traffic, Verdict};
 use frame_view::server::READY_FOR_QUERY;

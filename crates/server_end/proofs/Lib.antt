@@ -1,4 +1,4 @@
 pub mod NoneMoved
-pub use Rattle.link_laws.proofs.Both
-pub use Rattle.link_laws.proofs.InSession
-pub use Rattle.link_laws.proofs.Splits
+pub use Rattle.link_model.proofs.Both
+pub use Rattle.link_model.proofs.InSession
+pub use Rattle.link_model.proofs.Splits

@@ -1,6 +1,6 @@
 -- What a call of an end answers, and what it makes of where the end stands.
 use Rattle.std.specs.Prelude.{◌≡◌, ℕ, ◌+◌, ◌<◌, ◌≤◌, true, false, List, [], ◌++◌, take}
-use Rattle.link_laws.specs.Standing.{Standing, ClientFacts}
+use Rattle.link_model.specs.Standing.{Standing, ClientFacts}
 use Rattle.server_end.specs.declared.Moved.{Moved}
 use Rattle.server_end.specs.declared.Moved.TheVariants.{Count, NotNow, Ended, Fault}
 

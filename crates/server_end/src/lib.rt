@@ -5,7 +5,7 @@ pub mod gate;
 pub mod transcript;
 
 ghost use Rattle.std.specs.Prelude.{◌≡◌, ◌<◌, ◌≤◌, [], drop, length};
-ghost use Rattle.link_laws.specs.Standing.{Standing, Moves, ClientFacts};
+ghost use Rattle.link_model.specs.Standing.{Standing, Moves, ClientFacts};
 ghost use Rattle.server_end.specs.Moves.{ClientReads, ClientWrites, CountsRead, CountsWrite, IsWithin, moved};
 
 /// What a read or a write came to.

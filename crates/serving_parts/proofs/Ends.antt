@@ -1,7 +1,7 @@
 -- The ends of the tests keep the counts of those inside, and claim no more.
 use Rattle.std.proofs.Common.{◌≡◌, ℕ, ◌+◌, Bool, true, false, List, [], ◌++◌, refl, sym, ap, ◌∙◌, append-nil, arith}
 use Rattle.std.proofs.lemmas.Bool.{true≢false}
-use Rattle.link_laws.specs.Standing.{Standing, ClientFacts, Moves}
+use Rattle.link_model.specs.Standing.{Standing, ClientFacts, Moves}
 use Rattle.server_end.specs.declared.Moved.{Moved}
 use Rattle.server_end.specs.declared.Moved.TheVariants.{Count, NotNow, Ended, Fault}
 use Rattle.server_end.specs.Moves.{CountsRead, CountsWrite, ClientReads, ClientWrites, moved}

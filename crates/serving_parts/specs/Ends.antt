@@ -1,6 +1,6 @@
 -- Where the ends of the tests stand.
 use Rattle.std.specs.Prelude.{ℕ, false, List, []}
-use Rattle.link_laws.specs.Standing.{Standing, ClientFacts}
+use Rattle.link_model.specs.Standing.{Standing, ClientFacts}
 
 -- a client that doesn't tell its bytes
 abbrev pub untold : ClientFacts → ClientFacts

@@ -1,6 +1,6 @@
 //! Servers of the tests, and how they are reached.
 ghost use Rattle.std.specs.Prelude.{◌≡◌, ◌<◌, ◌≤◌, [], length, true};
-ghost use Rattle.link_laws.specs.Standing.{Moves};
+ghost use Rattle.link_model.specs.Standing.{Moves};
 ghost use Rattle.serving_parts.specs.Ends.{unfollowed};
 ghost use Rattle.server_end.specs.Moves.{CountsRead, CountsWrite, IsWithin, moved};
 

@@ -12,8 +12,8 @@ use Rattle.message_laws.proofs.ByteTrips.{text_again}
 use Rattle.message_laws.proofs.Trips.{text_spelled}
 use Rattle.session_run_laws.specs.declared.cause.Cause.{Cause}
 use Rattle.session_run_laws.specs.State.{State}
-use Rattle.link_laws.specs.Stages as rounds
-use Rattle.link_laws.specs.Stages.{Server, Packet, Starts, Sends, no_auth, started_by, wrong_password}
+use Rattle.link_model.specs.Stages as rounds
+use Rattle.link_model.specs.Stages.{Server, Packet, Starts, Sends, no_auth, started_by, wrong_password}
 use Rattle.start_before.specs.Before.{Auth, NoAuth, Asks, Stage, Before, Asked, Open, Closed, Turn, turns, opened, opens, begins, is_text, is_answer, hears, serve, after, answers, in_rounds, stage_in_rounds, IsSpellable, StartsAreAsBefore}
 
 -- ---- the right answer

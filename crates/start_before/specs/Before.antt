@@ -12,8 +12,8 @@ use Rattle.session_run_laws.specs.Errors.{fatal}
 use Rattle.session_run_laws.specs.State.{State}
 use Rattle.session_run_laws.specs.Step.{step}
 use Rattle.session_run_laws.specs.Service.{welcome}
-use Rattle.link_laws.specs.Stages as rounds
-use Rattle.link_laws.specs.Stages.{Server, Packet, Starts, Sends, asks_once, let_in, no_auth, started_by, wrong_password}
+use Rattle.link_model.specs.Stages as rounds
+use Rattle.link_model.specs.Stages.{Server, Packet, Starts, Sends, asks_once, let_in, no_auth, started_by, wrong_password}
 
 -- what a server asks of a client that starts: nothing, or a password (the kind of the question, and what follows it), of which one answer
 -- is right

@@ -3,8 +3,8 @@ use Rattle.std.proofs.Common.{◌≡◌, ℕ, Bool, true, false, List, [], ◌�
 use Rattle.std.specs.Prelude.{◌==◌, if◌then◌else◌, Option, Some, None}
 use Rattle.std.proofs.lemmas.Bool.{eqb-true}
 use Rattle.message_view.specs.declared.views.KeyView.{KeyView}
-use Rattle.link_laws.specs.Standing.{ClientFacts}
-use Rattle.link_laws.specs.Stages.{Server}
+use Rattle.link_model.specs.Standing.{ClientFacts}
+use Rattle.link_model.specs.Stages.{Server}
 use Rattle.server_end.specs.declared.Moved.{Moved}
 use Rattle.server_end.specs.declared.Moved.TheVariants.{Ended, Fault}
 use Rattle.server_end.specs.Moves.{ClientReads, ClientWrites, moved}

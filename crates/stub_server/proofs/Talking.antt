@@ -27,10 +27,10 @@ use Rattle.session_values.specs.State.{State, CatalogueOf, Answer, and_then}
 use Rattle.session_values.specs.Errors.{fatal}
 use Rattle.session_values.specs.Step.{first_mark, has_mark, later_marks, may_be_struck, run_frames, silent, step}
 use Rattle.session_values.specs.Service.{client_frames}
-use Rattle.link_laws.specs.Futures.{replies_open, FuturesStay}
-use Rattle.link_laws.specs.Stages.{Server, Open, Turn, can_strike, packet_bytes, packet_marks, let_in, opened, opens, started_by, serve}
-use Rattle.link_laws.specs.Stages as stages
-use Rattle.link_laws.specs.Standing.{Standing, Moves}
+use Rattle.link_model.specs.Futures.{replies_open, FuturesStay}
+use Rattle.link_model.specs.Stages.{Server, Open, Turn, can_strike, packet_bytes, packet_marks, let_in, opened, opens, started_by, serve}
+use Rattle.link_model.specs.Stages as stages
+use Rattle.link_model.specs.Standing.{Standing, Moves}
 use Rattle.memory_ends.specs.Dialogues as server
 use Rattle.memory_ends.proofs.Serving.{takes_frame, waits_frame, turn_refused}
 use Rattle.stub_server.specs.declared.talk.Host.{Host}

@@ -1,7 +1,7 @@
 //! What the stand-in server says to one client, packet by packet.
 ghost use Rattle.std.specs.Prelude.{◌≡◌, ◌<◌, ◌≤◌, false, length, IfOk, OnOk};
 ghost use Rattle.std.specs.Arc.{arc_value};
-ghost use Rattle.link_laws.specs.Stages.{opens};
+ghost use Rattle.link_model.specs.Stages.{opens};
 ghost use Rattle.session_values.specs.Extended.{is_there};
 ghost use Rattle.stub_server.specs.Talks.{Gives, Hears, LeavesNothing, IsSilent, IsTurn, Takes, TakesOne, ending_asked, ending_of, new_talk, server_of, talk_of};
 ghost use Rattle.stub_server.specs.Talks as spec;
@@ -13,7 +13,7 @@ use frame_view::laws::{
     are_bytes, first_grows, first_read_is_spelled, front_grows, front_is_spelled,
 };
 use frame_view::{FirstStep, MAX_FRAME, Side, Step, first_packet, next_frame};
-use link_laws::futures_stay;
+use link_model::futures_stay;
 use memory_ends::dialogue::started;
 use memory_ends::striker::strikes;
 use message_view::{KeyView, KeyWord, put_authentication_ok};

@@ -6,7 +6,7 @@ use crate::links::row_link;
 use crate::rows::Counter;
 use message_view::KeyWord;
 use relay_core::relay::Relay;
-use relay_laws::Next;
+use relay_model::Next;
 use server_end::gate::Ready;
 use std::alloc::{AllocError, Global};
 

@@ -7,7 +7,7 @@ use Rattle.frame_view.specs.declared.Side.TheVariants.{Client, Server}
 use Rattle.frame_view.specs.declared.server.TheConstants.{PARAMETER_STATUS, READY_FOR_QUERY}
 use Rattle.frame_view.specs.Frames.{Front, AFrame, Lacks, Faulty, front}
 use Rattle.relay_flow.specs.Parts.{goes_whole, is_stuck}
-use Rattle.relay_laws.specs.Steps.{HasRoom}
+use Rattle.relay_model.specs.Steps.{HasRoom}
 use Rattle.wire_laws.specs.Sizes.{IdleHasRoom}
 
 either : (a b c d : Bool) → (a && b || c && d) ≡ true → (b ≡ true) ⊎ (d ≡ true)

@@ -3,7 +3,7 @@ use Rattle.std.specs.Prelude.{◌≡◌, ◌≤◌, ◌+◌, []}
 use Rattle.relay_flow.specs.declared.flow.TheConstants.{ROOM}
 use Rattle.relay_flow.specs.declared.parts.TheConstants.{HEAD, MAX_STATUS, READY_LENGTH}
 use Rattle.relay_flow.specs.Flows.{FlowView, NoneGoes}
-use Rattle.relay_laws.specs.Steps.{HasRoom}
+use Rattle.relay_model.specs.Steps.{HasRoom}
 use Rattle.link_run.specs.declared.reply.TheConstants.{MAX_REPLY}
 use Rattle.param_track.specs.declared.reported.TheConstants.{MAX_NAMES}
 

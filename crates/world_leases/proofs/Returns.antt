@@ -11,7 +11,7 @@ use Rattle.session_laws.proofs.ByName.{discard_all_gives_fresh, discard_all_is_f
 use Rattle.session_run_laws.specs.Settling.{IsAnswered, IsQuiet}
 use Rattle.session_run_laws.proofs.ByName.{run_replies_are_frames, settled_is_quiet}
 use Rattle.session_run_laws.proofs.GoesOn.{unmarked_run}
-use Rattle.link_laws.proofs.Splits.{SplitsOff, split_whole}
+use Rattle.link_model.proofs.Splits.{SplitsOff, split_whole}
 use Rattle.world_steps.proofs.Sole.{all_client}
 use Rattle.frame_view.specs.declared.frames.TheConstants.{MAX_FRAME}
 use Rattle.world_steps.specs.Clients.{IsUnstruck}

@@ -16,7 +16,7 @@ use Rattle.session_laws.specs.Laws.{Reaches}
 use Rattle.session_laws.proofs.ByName.{fresh_is_reached, welcome_is_frames}
 use Rattle.session_values.proofs.Alls.{all-append}
 use Rattle.session_run_laws.proofs.ByName.{run_replies_are_frames}
-use Rattle.link_laws.proofs.Splits.{SplitsOff, split_whole}
+use Rattle.link_model.proofs.Splits.{SplitsOff, split_whole}
 use Rattle.login_core.specs.Talk.{End}
 use Rattle.login_core.specs.Talk.End.{Passed}
 use Rattle.login_core.specs.Dialogue.{Way, Reason, ToLink, login}

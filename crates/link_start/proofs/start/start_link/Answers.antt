@@ -2,7 +2,7 @@ use Rattle.std.proofs.Common.{◌≡◌, ◌≢◌, arith, sym, ◌∙◌, subst
 use Rattle.std.specs.Prelude.{IfErr}
 use Rattle.std.specs.Arc.{arc_value}
 use Rattle.session_values.specs.State.{StartKeyOf}
-use Rattle.link_laws.specs.Standing.{Standing}
+use Rattle.link_model.specs.Standing.{Standing}
 use Rattle.link_start.specs.declared.start.Progress.TheVariants.{Idle, Moved, Ready}
 use Rattle.link_start.specs.declared.start.StartCause.{StartCause}
 use Rattle.link_start.specs.Starts.{HasTried, IsStartCause, IsLinkKey}

@@ -2,7 +2,7 @@ use Rattle.std.proofs.Common.{Option, refl, sym, ap, ap₂, ◌∙◌, subst}
 use Rattle.std.specs.Prelude.{option_map}
 use Rattle.std.specs.Arc.{arc_value}
 use Rattle.session_values.specs.State.{StartKeyOf, address_of}
-use Rattle.link_laws.specs.Standing.{Standing}
+use Rattle.link_model.specs.Standing.{Standing}
 use Rattle.user_file.specs.declared.secrets.Secret.{Secret}
 use Rattle.ini_config.specs.Tables.{row_for}
 use Rattle.credentials.specs.Credentials.{CredentialOf, Text, credential_of, start_nonce}

@@ -1,8 +1,8 @@
 use Rattle.std.proofs.Common.{inl, refl, sym, ap, ◌∙◌, subst, Option}
 use Rattle.std.specs.Prelude.{IfSome}
 use Rattle.message_view.specs.declared.refusal.Refusal.{Refusal}
-use Rattle.relay_laws.specs.Answers.{AtBorder, RefusedBy, phase_after}
-use Rattle.relay_laws.specs.Leases.{IsLease, Place}
+use Rattle.relay_model.specs.Answers.{AtBorder, RefusedBy, phase_after}
+use Rattle.relay_model.specs.Leases.{IsLease, Place}
 use Rattle.pool_serve.proofs.Pumping.{Pumped, gone, goes_on, pumped_on}
 use Rattle.pool_serve.proofs.relaying.pumped.Goals as goal
 use Rattle.pool_serve.proofs.relaying.pumped.Goals.{in-Again, in-Wait}

@@ -4,7 +4,7 @@ use Rattle.std.proofs.lemmas.List.{drop-append-le}
 use Rattle.frame_view.specs.Frames.{AreBytes, spelling}
 use Rattle.message_view.specs.Bodies.{Text}
 use Rattle.session_values.specs.State.{StartKeyOf}
-use Rattle.link_laws.specs.Dialogues.{answer_message}
+use Rattle.link_model.specs.Dialogues.{answer_message}
 use Rattle.link_start.specs.Questions.{answer_to}
 use Rattle.link_start.specs.StartReply.{heard}
 use Rattle.link_start.specs.declared.start_reply.StartProgress.TheVariants.{Asked}

@@ -1,7 +1,7 @@
 use Rattle.std.proofs.Common.{◌+◌, ◌^◌, ◌<◌, length, ap, ◌∙◌, subst}
 use Rattle.frame_view.specs.Frames.{Start, first_spelling}
 use Rattle.session_values.specs.State.{StartKeyOf}
-use Rattle.link_laws.specs.Starts.{start_body}
+use Rattle.link_model.specs.Starts.{start_body}
 use Rattle.link_start.proofs.Starting.{start_begun, waits_first}
 use Rattle.link_start.proofs.start.Start.begin.Goals as goal
 

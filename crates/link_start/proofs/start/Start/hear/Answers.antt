@@ -1,5 +1,5 @@
 use Rattle.std.proofs.Common.{sym, ◌∙◌, subst}
-use Rattle.link_laws.specs.Standing.{Standing}
+use Rattle.link_model.specs.Standing.{Standing}
 use Rattle.link_start.specs.declared.start.StartCause.TheVariants as causes
 use Rattle.link_start.specs.Starts.{IsStartCause}
 use Rattle.link_start.proofs.Starting.{other_cause, refused_cause}

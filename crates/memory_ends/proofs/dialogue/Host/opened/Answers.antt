@@ -1,6 +1,6 @@
 use Rattle.std.proofs.Common.{ap, sym, ◌∙◌}
 use Rattle.session_values.specs.State.{CatalogueOf}
-use Rattle.link_laws.specs.Stages.{started_by}
+use Rattle.link_model.specs.Stages.{started_by}
 use Rattle.memory_ends.specs.Dialogues.{server_of}
 use Rattle.memory_ends.proofs.Serving.{refused_so, turn_refused}
 use Rattle.memory_ends.proofs.dialogue.Host.opened.Goals as goal

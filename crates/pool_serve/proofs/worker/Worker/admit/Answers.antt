@@ -1,6 +1,6 @@
 use Rattle.std.proofs.Common.{ap, ◌∙◌}
 use Rattle.console_run.specs.Passing.{pass_of}
-use Rattle.link_laws.specs.Standing.{ClientFacts}
+use Rattle.link_model.specs.Standing.{ClientFacts}
 use Rattle.pool_serve.proofs.Again.{asked_once, same_asking, stay_at_last}
 use Rattle.pool_serve.proofs.Causing.{arrival_traces}
 use Rattle.pool_serve.proofs.Leases.{same_came}

@@ -1,9 +1,9 @@
 use Rattle.std.proofs.Common.{ℕ, sym, ap, ◌∙◌, subst}
 use Rattle.ini_config.specs.declared.option_values.Settings.{Settings}
-use Rattle.link_laws.specs.Standing.{ClientFacts}
+use Rattle.link_model.specs.Standing.{ClientFacts}
 use Rattle.login_core.specs.Solo.{service_pieces}
 use Rattle.message_view.specs.declared.refusal.Refusal.TheVariants.{OutOfMemory}
-use Rattle.relay_laws.specs.Leases.{IsLease, place}
+use Rattle.relay_model.specs.Leases.{IsLease, place}
 use Rattle.pool_serve.specs.FinalMessages.{or_nothing}
 use Rattle.pool_serve.specs.Serving.{Serves, limit_of}
 use Rattle.pool_serve.specs.declared.final_message.FinalMessage.TheVariants as last

@@ -1,7 +1,7 @@
 use Rattle.std.proofs.Common.{inl, refl, sym, ap, ◌∙◌, subst}
 use Rattle.ini_config.specs.Bounds.{AreWithinBounds}
 use Rattle.ini_config.specs.declared.option_values.Settings.{Settings}
-use Rattle.link_laws.specs.Standing.{ClientFacts}
+use Rattle.link_model.specs.Standing.{ClientFacts}
 use Rattle.login_core.specs.Logins.{LoginView}
 use Rattle.pool_serve.specs.declared.logged_in.LoggedIn.{LoggedIn}
 use Rattle.pool_serve.proofs.Again.{guest_traces}

@@ -1,5 +1,5 @@
 use Rattle.std.proofs.Common.{arith}
-use Rattle.relay_laws.proofs.Beginning.{lease_begun_at}
+use Rattle.relay_model.proofs.Beginning.{lease_begun_at}
 use Rattle.relay_core.proofs.relay.Relay.begin_over.Goals as goal
 
 pub invariant_of-result : goal.invariant_of-result

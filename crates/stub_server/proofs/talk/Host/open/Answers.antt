@@ -1,6 +1,6 @@
 use Rattle.std.proofs.Common.{ap, sym, ◌∙◌}
 use Rattle.session_values.specs.State.{CatalogueOf}
-use Rattle.link_laws.specs.Stages.{started_by}
+use Rattle.link_model.specs.Stages.{started_by}
 use Rattle.stub_server.specs.Talks.{server_of}
 use Rattle.memory_ends.proofs.Serving.{refused_so}
 use Rattle.stub_server.proofs.Talking.{stub_refused}

@@ -1,5 +1,0 @@
-use Rattle.link_laws.proofs.Futures.{futures-stay}
-use Rattle.link_laws.proofs.futures_stay.Goals as goal
-
-pub returns : goal.returns
-returns c = futures-stay c.spelled_is_front.ensures c.spelled_is_first.ensures c.first_spelled_is_read.ensures

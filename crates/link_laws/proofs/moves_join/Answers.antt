@@ -1,5 +1,0 @@
-use Rattle.link_laws.proofs.ByName.{moves_join}
-use Rattle.link_laws.proofs.moves_join.Goals as goal
-
-pub returns : goal.returns
-returns c = moves_join

@@ -1,5 +1,0 @@
-use Rattle.link_laws.proofs.ByName.{settled_links_rest}
-use Rattle.link_laws.proofs.settled_links_rest.Goals as goal
-
-pub returns : goal.returns
-returns c = settled_links_rest

@@ -1,5 +1,0 @@
-use Rattle.link_laws.proofs.ByName.{start_replies_are_frames}
-use Rattle.link_laws.proofs.start_replies_are_frames.Goals as goal
-
-pub returns : goal.returns
-returns c = start_replies_are_frames

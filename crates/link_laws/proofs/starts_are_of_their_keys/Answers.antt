@@ -1,5 +1,0 @@
-use Rattle.link_laws.proofs.ByName.{starts_are_of_their_keys}
-use Rattle.link_laws.proofs.starts_are_of_their_keys.Goals as goal
-
-pub returns : goal.returns
-returns c = starts_are_of_their_keys

@@ -1,5 +1,0 @@
-use Rattle.relay_laws.proofs.Exact.{lease_allowed}
-use Rattle.relay_laws.proofs.leases_are_allowed.Goals as goal
-
-pub returns : goal.returns
-returns c = lease_allowed

@@ -1,5 +1,0 @@
-use Rattle.relay_laws.proofs.Rest.{lease_clean}
-use Rattle.relay_laws.proofs.untouched_links_are_clean.Goals as goal
-
-pub returns : goal.returns
-returns c = lease_clean
