@@ -81,7 +81,7 @@ fn links(alloc: Global, rows: &[Member]) -> Result<Vec<Link>, AllocError> {
         links.push(Link {
             number: *number,
             key: PoolKey::new(key(alloc, row, user)?),
-            born: 5,
+            started_at: 5,
             since: 6,
         })?;
     }

@@ -117,7 +117,7 @@ lends_keeps b client t link e h = record {
 }
 
 abbrev new_link : Book → Ticket → Link
-new_link b t = record { number = b.next_link; key = t.key; born = b.clock; since = b.clock }
+new_link b t = record { number = b.next_link; key = t.key; started_at = b.clock; since = b.clock }
 
 starts_keeps : (b : Book) (client : ℕ) (t : Ticket) → nat_lt (link_count b) b.limits.max_links ≡ true → Kept b → Keeps b (Take client) (starts b t b.idle None)
 starts_keeps b client t room h = record {
@@ -326,11 +326,11 @@ applied_keeps b e fits h =
     by_branch (λ (a : Answer). Kept a.book) (b.decisions == last_decision) _ _ (λ _. h)
     (λ _. by_branch (λ (a : Answer). Kept a.book) (is_strange b e) _ _ (λ _. h) (λ known. outcome_keeps b e fits known h))
 
-pub returned_keeps : (b : Book) (n : ℕ) (key : StartKeyOf) (born : ℕ) → Kept b → Kept (apply_return b n key born).book
+pub returned_keeps : (b : Book) (n : ℕ) (key : StartKeyOf) (started_at : ℕ) → Kept b → Kept (apply_return b n key started_at).book
 unfolding apply_return
-returned_keeps b n key born h =
+returned_keeps b n key started_at h =
     by_branch (λ (a : Answer). Kept a.book) (b.decisions == last_decision) _ _ (λ _. h)
-    (λ _. by_branch (λ (a : Answer). Kept a.book) (is_started_as key born (find (is_link n) b.lent)) _ _ (λ _. applied_keeps b (GiveBack n) tt h) (λ _. h))
+    (λ _. by_branch (λ (a : Answer). Kept a.book) (is_started_as key started_at (find (is_link n) b.lent)) _ _ (λ _. applied_keeps b (GiveBack n) tt h) (λ _. h))
 
 pub empty_keeps : (limits : Limits) → KeptLimits limits → Kept (empty_book limits)
 empty_keeps limits l = record {

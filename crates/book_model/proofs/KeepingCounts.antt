@@ -69,7 +69,7 @@ start_counts b t idle evicted evictions l h = record {
   grants = omega (arith, h.grants);
   evicted = omega (arith, l, h.evicted);
   losses = h.losses;
-  lent = omega (arith, h.lent, length_push b.lent (record { number = b.next_link; key = t.key; born = b.clock; since = b.clock }));
+  lent = omega (arith, h.lent, length_push b.lent (record { number = b.next_link; key = t.key; started_at = b.clock; since = b.clock }));
 }
 
 pub reuse_counts : (b : Book) (t : Ticket) (link : Link) → KeptCounts b → KeptCounts (counted (lends b t link).book (Some Grant))

@@ -284,7 +284,7 @@ DropsAny old (Some l) new = Drops old l new
 
 TakeFits : Book → ℕ → Reply → Book → Type 0
 TakeFits old c (Lend l) new = Lends old c l new
-TakeFits old c (Start l born evicted) new = Starts old c l new × DropsAny old evicted new
+TakeFits old c (Start l started_at evicted) new = Starts old c l new × DropsAny old evicted new
 TakeFits old c (Arrived n) new = StartsNothing old new
 TakeFits old c (Queued n) new = StartsNothing old new
 TakeFits old c (Close n) new = StartsNothing old new
@@ -306,7 +306,7 @@ loses_ok b c t refusal = λ d counts. record { adds_nothing = record { next_clie
 
 -- the link that is started for a ticket
 abbrev started : Book → Ticket → Link
-started b t = record { number = b.next_link; key = t.key; born = b.clock; since = b.clock }
+started b t = record { number = b.next_link; key = t.key; started_at = b.clock; since = b.clock }
 
 starts_ok : (b : Book) (c : ℕ) (t : Ticket) → HasTicket c t.key b.tickets → AnswerFits (TakeFits b c) (starts b t b.idle None)
 unfolding AnswerFits TakeFits DropsAny
@@ -375,11 +375,11 @@ takes_lend b c l e = take_of b c (Lend l) e
 
 pub takes_start : TakesStart
 unfolding TakeFits
-takes_start b c l born e = (take_of b c (Start l born None) e).0
+takes_start b c l started_at e = (take_of b c (Start l started_at None) e).0
 
 pub takes_evict : TakesEvict
 unfolding TakeFits DropsAny
-takes_evict b c l born old e = take_of b c (Start l born (Some old)) e
+takes_evict b c l started_at old e = take_of b c (Start l started_at (Some old)) e
 
 -- ---- an Ask
 
@@ -406,7 +406,7 @@ BackFits : Book → ℕ → StartKeyOf → Reply → Book → Type 0
 BackFits old l key Done new = TakesBack old l key new
 BackFits old l key (Close n) new = StartsNothing old new
 BackFits old l key (Lend n) new = Unit {0}
-BackFits old l key (Start n born evicted) new = Unit {0}
+BackFits old l key (Start n started_at evicted) new = Unit {0}
 BackFits old l key (Arrived n) new = Unit {0}
 BackFits old l key (Queued n) new = Unit {0}
 BackFits old l key (Refuse n) new = Unit {0}
@@ -416,10 +416,10 @@ BackFits old l key Nobody new = Unit {0}
 BackFits old l key Reset new = Unit {0}
 BackFits old l key Dispose new = Unit {0}
 
-back_ok : (b : Book) (l : ℕ) (key : StartKeyOf) (o : Option Link) → find (is_link l) b.lent ≡ o → (born : ℕ) → is_started_as key born o ≡ true → AnswerFits (BackFits b l key) (gives_back b o)
+back_ok : (b : Book) (l : ℕ) (key : StartKeyOf) (o : Option Link) → find (is_link l) b.lent ≡ o → (started_at : ℕ) → is_started_as key started_at o ≡ true → AnswerFits (BackFits b l key) (gives_back b o)
 unfolding BackFits AnswerFits
-back_ok b l key None e born s = λ d counts. tt
-back_ok b l key (Some link) e born s =
+back_ok b l key None e started_at s = λ d counts. tt
+back_ok b l key (Some link) e started_at s =
     by_branch (λ (a : Answer). AnswerFits (BackFits b l key) a) (is_old b link || is_crowded b link) _ _
     (λ d counts. record { adds_nothing = record { next_client = le_refl b.next_client; idle = λ n k h. h; tickets = λ u k h. h }; next_link = refl; lends_nothing = loses_link link.number b _ refl refl refl })
     (λ d counts. record {
@@ -435,25 +435,25 @@ back_ok b l key (Some link) e born s =
     number = eqb-true link.number l (first_found (is_link l) b.lent link e).passes
 
     key_is : link.key ≡ key
-    key_is = (same_keys-one link.key key).0 (first_of (same_key link.key key) (link.born == born) s)
+    key_is = (same_keys-one link.key key).0 (first_of (same_key link.key key) (link.started_at == started_at) s)
 
-back_event : (b : Book) (l : ℕ) (key : StartKeyOf) (born : ℕ) → BackFits b l key (apply_return b l key born).reply (apply_return b l key born).book
+back_event : (b : Book) (l : ℕ) (key : StartKeyOf) (started_at : ℕ) → BackFits b l key (apply_return b l key started_at).reply (apply_return b l key started_at).book
 unfolding BackFits apply_return
-back_event b l key born =
+back_event b l key started_at =
     by_branch (λ (a : Answer). BackFits b l key a.reply a.book) (b.decisions == last_decision) _ _ tt
-    (by_known_branches (λ (a : Answer). BackFits b l key a.reply a.book) (is_started_as key born (find (is_link l) b.lent)) _ _
-    (λ s. applied (BackFits b l key) b (GiveBack l) tt tt (back_ok b l key (find (is_link l) b.lent) refl born s)) (λ _. tt))
+    (by_known_branches (λ (a : Answer). BackFits b l key a.reply a.book) (is_started_as key started_at (find (is_link l) b.lent)) _ _
+    (λ s. applied (BackFits b l key) b (GiveBack l) tt tt (back_ok b l key (find (is_link l) b.lent) refl started_at s)) (λ _. tt))
 
-back_of : (b : Book) (l : ℕ) (key : StartKeyOf) (born : ℕ) (r : Reply) → (apply_return b l key born).reply ≡ r → BackFits b l key r (apply_return b l key born).book
-back_of b l key born r e = subst (λ (s : Reply). BackFits b l key s (apply_return b l key born).book) e (back_event b l key born)
+back_of : (b : Book) (l : ℕ) (key : StartKeyOf) (started_at : ℕ) (r : Reply) → (apply_return b l key started_at).reply ≡ r → BackFits b l key r (apply_return b l key started_at).book
+back_of b l key started_at r e = subst (λ (s : Reply). BackFits b l key s (apply_return b l key started_at).book) e (back_event b l key started_at)
 
 pub returns_add : ReturnsAdd
 unfolding BackFits
-returns_add b l key born e = back_of b l key born Done e
+returns_add b l key started_at e = back_of b l key started_at Done e
 
 pub returns_close : ReturnsClose
 unfolding BackFits
-returns_close b l n key born e = back_of b l key born (Close n) e
+returns_close b l n key started_at e = back_of b l key started_at (Close n) e
 
 -- ---- the clock
 
@@ -461,7 +461,7 @@ TickFits : Book → Reply → Book → Type 0
 TickFits old (Close n) new = StartsNothing old new × Drops old n new
 TickFits old Done new = StartsNothing old new
 TickFits old (Lend n) new = Unit {0}
-TickFits old (Start n born evicted) new = Unit {0}
+TickFits old (Start n started_at evicted) new = Unit {0}
 TickFits old (Arrived n) new = Unit {0}
 TickFits old (Queued n) new = Unit {0}
 TickFits old (Refuse n) new = Unit {0}
@@ -523,7 +523,7 @@ ArriveFits old (Arrived n) new = Numbers old n new
 ArriveFits old (Refuse n) new = StartsNothing old new
 ArriveFits old Done new = Unit {0}
 ArriveFits old (Lend n) new = Unit {0}
-ArriveFits old (Start n born evicted) new = Unit {0}
+ArriveFits old (Start n started_at evicted) new = Unit {0}
 ArriveFits old (Close n) new = Unit {0}
 ArriveFits old (Queued n) new = Unit {0}
 ArriveFits old Stranger new = Unit {0}

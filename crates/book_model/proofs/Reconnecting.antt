@@ -81,11 +81,11 @@ returned_fresh b n =
     both (KeepsFresh b n) (b.decisions == last_decision) _ _ (λ f. absurd (cc))
     (both (KeepsFresh b n) (is_strange b (GiveBack n)) _ _ (λ f. absurd (cc)) (gives_fresh b n (find (is_link n) b.lent) refl))
 
-keeps_fresh : (b : Book) (n : ℕ) (key : StartKeyOf) (born : ℕ) → KeepsFresh b n (apply_return b n key born)
+keeps_fresh : (b : Book) (n : ℕ) (key : StartKeyOf) (started_at : ℕ) → KeepsFresh b n (apply_return b n key started_at)
 unfolding apply_return
-keeps_fresh b n key born =
+keeps_fresh b n key started_at =
     both (KeepsFresh b n) (b.decisions == last_decision) _ _ (λ f. absurd (cc))
-    (both (KeepsFresh b n) (is_started_as key born (find (is_link n) b.lent)) _ _ (returned_fresh b n) (λ f. absurd (cc)))
+    (both (KeepsFresh b n) (is_started_as key started_at (find (is_link n) b.lent)) _ _ (returned_fresh b n) (λ f. absurd (cc)))
 
 -- ---- what isn't fresh stays so
 
@@ -192,5 +192,5 @@ never_lent b es client link h fits done below lent =
     omega (arith, below, renewed b es h fits done, lends_fresh (after (apply b (Makes Reconnect)).book es) client link lent)
 
 pub never_kept : NeverKeptAgain
-never_kept b es link key born h fits done below back =
-    omega (arith, below, renewed b es h fits done, keeps_fresh (after (apply b (Makes Reconnect)).book es) link key born back)
+never_kept b es link key started_at h fits done below back =
+    omega (arith, below, renewed b es h fits done, keeps_fresh (after (apply b (Makes Reconnect)).book es) link key started_at back)

@@ -20,11 +20,11 @@ pub record Ticket : Type 0 where
   pub key : StartKeyOf
   pub since : ℕ
 
--- `born`: the second of its start; `since`: that of its last return, or of its start
+-- `started_at`: the second of its start; `since`: that of its last return, or of its start
 pub record Link : Type 0 where
   pub number : ℕ
   pub key : StartKeyOf
-  pub born : ℕ
+  pub started_at : ℕ
   pub since : ℕ
 
 -- a lease of a lent link, with the key words of its client and of its server

@@ -79,7 +79,7 @@ EventsKeep = (b : Book) (e : Event) → FitsLimits e → Kept b → Kept (apply 
 
 -- So does the return of a link, and an empty book is in order.
 abbrev pub ReturnsKeep : Type 0
-ReturnsKeep = (b : Book) (n : ℕ) (key : StartKeyOf) (born : ℕ) → Kept b → Kept (apply_return b n key born).book
+ReturnsKeep = (b : Book) (n : ℕ) (key : StartKeyOf) (started_at : ℕ) → Kept b → Kept (apply_return b n key started_at).book
 
 abbrev pub EmptyBooksAreKept : Type 0
 EmptyBooksAreKept = (limits : Limits) → KeptLimits limits → Kept (empty_book limits)

@@ -156,16 +156,16 @@ abbrev pub TakesLend : Type 0
 TakesLend = (b : Book) (client link : ℕ) → (apply b (Take client)).reply ≡ Lend link → Lends b client link (apply b (Take client)).book
 
 abbrev pub TakesStart : Type 0
-TakesStart = (b : Book) (client link born : ℕ) → (apply b (Take client)).reply ≡ Start link born None → Starts b client link (apply b (Take client)).book
+TakesStart = (b : Book) (client link started_at : ℕ) → (apply b (Take client)).reply ≡ Start link started_at None → Starts b client link (apply b (Take client)).book
 
 abbrev pub TakesEvict : Type 0
-TakesEvict = (b : Book) (client link born old : ℕ) → (apply b (Take client)).reply ≡ Start link born (Some old) → Starts b client link (apply b (Take client)).book × Drops b old (apply b (Take client)).book
+TakesEvict = (b : Book) (client link started_at old : ℕ) → (apply b (Take client)).reply ≡ Start link started_at (Some old) → Starts b client link (apply b (Take client)).book × Drops b old (apply b (Take client)).book
 
 abbrev pub ReturnsAdd : Type 0
-ReturnsAdd = (b : Book) (link : ℕ) (key : StartKeyOf) (born : ℕ) → (apply_return b link key born).reply ≡ Done → TakesBack b link key (apply_return b link key born).book
+ReturnsAdd = (b : Book) (link : ℕ) (key : StartKeyOf) (started_at : ℕ) → (apply_return b link key started_at).reply ≡ Done → TakesBack b link key (apply_return b link key started_at).book
 
 abbrev pub ReturnsClose : Type 0
-ReturnsClose = (b : Book) (link closed : ℕ) (key : StartKeyOf) (born : ℕ) → (apply_return b link key born).reply ≡ Close closed → StartsNothing b (apply_return b link key born).book
+ReturnsClose = (b : Book) (link closed : ℕ) (key : StartKeyOf) (started_at : ℕ) → (apply_return b link key started_at).reply ≡ Close closed → StartsNothing b (apply_return b link key started_at).book
 
 abbrev pub TicksClose : Type 0
 TicksClose = (b : Book) (now link : ℕ) → (apply b (Tick now)).reply ≡ Close link → StartsNothing b (apply b (Tick now)).book × Drops b link (apply b (Tick now)).book

@@ -88,7 +88,7 @@ lends b t link = record { book = record (granted b t link (without link.number b
 -- a link is to be started
 abbrev pub starts : Book → Ticket → List Link → Option ℕ → Answer
 starts b t idle evicted = record {
-  book = record (granted b t (record { number = b.next_link; key = t.key; born = b.clock; since = b.clock }) idle) { next_link = suc b.next_link; starts = suc b.starts };
+  book = record (granted b t (record { number = b.next_link; key = t.key; started_at = b.clock; since = b.clock }) idle) { next_link = suc b.next_link; starts = suc b.starts };
   reply = Start b.next_link b.clock evicted;
 }
 
@@ -120,7 +120,7 @@ takes b (Some t) =
 -- ---- a link comes back, or is closed
 
 abbrev pub is_old : Book → Link → Bool
-is_old b link = nat_le b.limits.lifetime (b.clock - link.born) || (b.is_shut || not (is_fresh b.fresh_from link))
+is_old b link = nat_le b.limits.lifetime (b.clock - link.started_at) || (b.is_shut || not (is_fresh b.fresh_from link))
 
 -- an idle link is closed at a tick, where it is old, where no database row is its key's any more, or where it lay idle for too long
 abbrev pub is_stale : Book → Link → Bool
@@ -287,10 +287,10 @@ apply b e =
 -- ---- a link that is given back must be of the key and birth of its start
 
 abbrev pub is_started_as : StartKeyOf → ℕ → Option Link → Bool
-is_started_as key born None = false
-is_started_as key born (Some link) = same_key link.key key && link.born == born
+is_started_as key started_at None = false
+is_started_as key started_at (Some link) = same_key link.key key && link.started_at == started_at
 
 unfoldable pub apply_return : Book → ℕ → StartKeyOf → ℕ → Answer
-apply_return b n key born =
+apply_return b n key started_at =
     cond (b.decisions == last_decision) (record { book = b; reply = Refuse LastDecision })
-    (cond (is_started_as key born (find (is_link n) b.lent)) (apply b (GiveBack n)) (record { book = b; reply = Stranger }))
+    (cond (is_started_as key started_at (find (is_link n) b.lent)) (apply b (GiveBack n)) (record { book = b; reply = Stranger }))

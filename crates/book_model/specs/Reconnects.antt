@@ -24,4 +24,4 @@ NeverLentAgain = (b : Book) (es : List Event) (client link : ℕ) → Kept b →
 
 -- Nor is it kept where it comes back.
 abbrev pub NeverKeptAgain : Type 0
-NeverKeptAgain = (b : Book) (es : List Event) (link : ℕ) (key : StartKeyOf) (born : ℕ) → Kept b → AllFit es → (apply b (Makes Reconnect)).reply ≡ Done → link < b.next_link → (apply_return (after (apply b (Makes Reconnect)).book es) link key born).reply ≢ Done
+NeverKeptAgain = (b : Book) (es : List Event) (link : ℕ) (key : StartKeyOf) (started_at : ℕ) → Kept b → AllFit es → (apply b (Makes Reconnect)).reply ≡ Done → link < b.next_link → (apply_return (after (apply b (Makes Reconnect)).book es) link key started_at).reply ≢ Done

@@ -118,7 +118,7 @@ pub enum Reply {
     /// A link of this number and second of birth is to be started for the client, once this idle one is closed.
     Start {
         link: u64,
-        born: u64,
+        started_at: u64,
         evicted: Option<u64>,
     },
     /// This link is to be closed.

@@ -213,7 +213,9 @@ impl BookState {
     {
         let limits: &Limits = &self.limits;
         let lifetime = u64::from(limits.server_lifetime);
-        lifetime <= self.clock.saturating_sub(link.born) || self.is_shut || !self.is_fresh(link)
+        lifetime <= self.clock.saturating_sub(link.started_at)
+            || self.is_shut
+            || !self.is_fresh(link)
     }
 
     /// Whether an idle link is to be closed.
@@ -336,7 +338,7 @@ impl BookState {
         ensures reply { result ≡ (outcome.starts self.old ticket self.old.idle evicted).reply }
     {
         let Ticket { client, key, .. } = ticket;
-        let born = self.clock;
+        let started_at = self.clock;
         self.last_link += 1;
         self.starts += 1;
         let link = self.last_link;
@@ -344,12 +346,12 @@ impl BookState {
         self.lent.push(Link {
             number: link,
             key,
-            born,
-            since: born,
+            started_at,
+            since: started_at,
         });
         Reply::Start {
             link,
-            born,
+            started_at,
             evicted,
         }
     }

@@ -145,16 +145,16 @@ impl BookState {
     }
 
     /// What a link that is given back makes of the lists, by what it was started as, and the reply. It needs no memory.
-    pub fn apply_return(&mut self, number: u64, key: &StartKey, born: u64) -> Reply
+    pub fn apply_return(&mut self, number: u64, key: &StartKey, started_at: u64) -> Reply
         requires kept { Kept self.old }
         ensures kept { Kept self.new }
-        ensures book { self.new ≡ (outcome.apply_return self.old number key.now born).book }
-        ensures reply { result ≡ (outcome.apply_return self.old number key.now born).reply }
+        ensures book { self.new ≡ (outcome.apply_return self.old number key.now started_at).book }
+        ensures reply { result ≡ (outcome.apply_return self.old number key.now started_at).reply }
     {
         if self.decisions == u64::MAX {
             return Reply::Refuse(Refusal::LastDecision);
         }
-        if !self.is_lent_as(number, key, born) {
+        if !self.is_lent_as(number, key, started_at) {
             return Reply::Stranger;
         }
         let reply = self.gives_back(number);

@@ -197,11 +197,11 @@ impl BookState {
     }
 
     /// Whether a link of this number is lent, and was started for an equal key at this second.
-    pub fn is_lent_as(&self, number: u64, key: &StartKey, born: u64) -> bool
+    pub fn is_lent_as(&self, number: u64, key: &StartKey, started_at: u64) -> bool
         requires kept { Kept self.now }
-        ensures { result ≡ is_started_as key.now born (find (book.is_link number) self.now.lent) }
+        ensures { result ≡ is_started_as key.now started_at (find (book.is_link number) self.now.lent) }
     {
-        self.lent.has_as(number, key, born)
+        self.lent.has_as(number, key, started_at)
     }
 
     /// The start key of the lent link of this number; none where it isn't lent.

@@ -22,7 +22,7 @@ use std::marker::Model;
 pub struct Link {
     pub number: u64,
     pub key: PoolKey,
-    pub born: u64,
+    pub started_at: u64,
     pub since: u64,
 }
 
@@ -31,7 +31,7 @@ impl Model for Link {
 
     ghost Value = { LinkRow };
 
-    ghost view = { λ l. record { number = l.number; key = l.key; born = l.born; since = l.since } };
+    ghost view = { λ l. record { number = l.number; key = l.key; started_at = l.started_at; since = l.since } };
 }
 
 impl Numbered for Link {
@@ -51,10 +51,10 @@ impl Link {
     }
 
     /// Whether it was started for an equal key, at this second.
-    fn was_started_as(&self, key: &StartKey, born: u64) -> bool
-        ensures { result ≡ is_started_as key.now born (Some self.now) }
+    fn was_started_as(&self, key: &StartKey, started_at: u64) -> bool
+        ensures { result ≡ is_started_as key.now started_at (Some self.now) }
     {
-        self.key.is(key) && self.born == born
+        self.key.is(key) && self.started_at == started_at
     }
 }
 
@@ -235,12 +235,12 @@ impl Links {
     }
 
     /// Whether the link is there, and was started for an equal key at this second.
-    pub fn has_as(&self, number: u64, key: &StartKey, born: u64) -> bool
+    pub fn has_as(&self, number: u64, key: &StartKey, started_at: u64) -> bool
         requires once { (n : ℕ) → count_by (book.is_link n) self.now ≤ 1 }
-        ensures { result ≡ is_started_as key.now born (find (book.is_link number) self.now) }
+        ensures { result ≡ is_started_as key.now started_at (find (book.is_link number) self.now) }
     {
         match self.rows.get(number) {
-            Some(link) => link.was_started_as(key, born),
+            Some(link) => link.was_started_as(key, started_at),
             None => false,
         }
     }

@@ -101,9 +101,9 @@ fn by_numbers(reply: Reply<GoneEnd>) -> Told {
         Reply::Lend(link) => Told::Lend(number(link)),
         Reply::Start {
             number,
-            born,
+            started_at,
             evicted,
-        } => Told::Start(number, born, number_of(evicted)),
+        } => Told::Start(number, started_at, number_of(evicted)),
         Reply::Close(link) => Told::Close(number(link)),
         Reply::Refuse(refusal, back) => Told::Refuse(refusal, number_of(back)),
         Reply::Done => Told::Done,
@@ -178,9 +178,14 @@ impl Story {
     }
 
     /// A link comes back.
-    fn takes_back(&mut self, number: u64, whose: Whose, born: u64) -> Result<Told, AllocError> {
+    fn takes_back(
+        &mut self,
+        number: u64,
+        whose: Whose,
+        started_at: u64,
+    ) -> Result<Told, AllocError> {
         let key = key_of(self.alloc, whose)?;
-        let link = link(self.alloc, key, number, born)?;
+        let link = link(self.alloc, key, number, started_at)?;
         Ok(by_numbers(self.reply(GiveBack(link))))
     }
 
@@ -198,7 +203,7 @@ impl Story {
             Act::Ask(client, whose) => self.asks(client, whose),
             Act::Take(client) => Ok(self.happens(Event::Take { client })),
             Act::Back(number, whose) => self.takes_back(number, whose, 0),
-            Act::BackFrom(number, whose, born) => self.takes_back(number, whose, born),
+            Act::BackFrom(number, whose, started_at) => self.takes_back(number, whose, started_at),
             Act::Lost(number) => Ok(self.happens(Event::Lost { link: number })),
             Act::StartFailed(number) => Ok(self.happens(Event::StartFailed { link: number })),
             Act::Leave(client) => Ok(self.happens(Event::Leave { client })),
@@ -249,7 +254,7 @@ impl Story {
     pub(crate) fn first_lent(&self) -> Result<Option<(u64, u64)>, AllocError> {
         let view = self.book.view(self.alloc)?;
         match view.lent.first() {
-            Some(link) => Ok(Some((link.number, link.born))),
+            Some(link) => Ok(Some((link.number, link.started_at))),
             None => Ok(None),
         }
     }

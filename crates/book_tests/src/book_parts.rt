@@ -164,10 +164,10 @@ pub fn link(
     alloc: Global,
     key: Arc<StartKey>,
     number: u64,
-    born: u64,
+    started_at: u64,
 ) -> Result<CleanLink<GoneEnd>, AllocError>
     ensures number { IfOk result (λ l. l.number ≡ number) }
-    ensures born { IfOk result (λ l. l.born ≡ born) }
+    ensures started_at { IfOk result (λ l. l.started_at ≡ started_at) }
     ensures silent { IfOk result (λ l. l.stands.follows ≡ false) }
 {
     unfollowed_starts_are_clean();
@@ -175,7 +175,7 @@ pub fn link(
         end: GoneEnd::of(&key)?,
         key,
         number,
-        born,
+        started_at,
         server_key: None,
         reported: Reported::new(alloc),
     };

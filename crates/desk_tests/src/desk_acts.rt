@@ -161,9 +161,9 @@ fn granted(grant: told::Grant<GoneEnd>) -> Says {
         told::Grant::Lend(link) => Says::Lend(link.number()),
         told::Grant::Start {
             number,
-            born,
+            started_at,
             evicted,
-        } => Says::Start(number, born, number_of(evicted)),
+        } => Says::Start(number, started_at, number_of(evicted)),
         told::Grant::Refused(refusal) => Says::Refuse(refusal),
         told::Grant::Stranger => Says::Stranger,
     }
@@ -288,14 +288,14 @@ fn gives_back<R: Wait + Clock, K: Ledgers>(
     let Some(
         Lease {
             number,
-            born,
+            started_at,
             stage: Stage::Ended,
         },
     ) = pass.holder().lease
     else {
         return Ok(Says::Nobody);
     };
-    let mut back = Some(link(alloc, key, number, born)?);
+    let mut back = Some(link(alloc, key, number, started_at)?);
     let answer = desk.give_back(pass, &mut back);
     Ok(taken_back(answer, back))
 }

@@ -41,7 +41,7 @@ fn are_tickets(rows: &[Ticket], wanted: &[(u64, u64)]) -> bool {
 
 fn are_links(rows: &[Link], wanted: &[(u64, u64, u64)]) -> bool {
     for (row, wanted) in rows.iter().zip(wanted.iter()) {
-        if (row.number, row.born, row.since) != *wanted {
+        if (row.number, row.started_at, row.since) != *wanted {
             return false;
         }
     }

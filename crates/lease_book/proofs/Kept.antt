@@ -113,26 +113,26 @@ noted_on h n lists next pass e again r rose is told same more noted_is =
 none_rose : (b next : Book) (rose : Bool) → rose ≡ nat_lt b.decisions next.decisions → next ≡ b → rose ≡ false
 none_rose b next rose more is = more ∙ ap (λ (x : Book). nat_lt b.decisions x.decisions) is ∙ le-ltb b.decisions b.decisions (omega arith)
 
-pub noted_back : (h m : History) (b next : Book) (pass n : ℕ) (key : StartKeyOf) (born : ℕ) (r : Reply) (rose : Bool) → next ≡ (apply_return b n key born).book → r ≡ (apply_return b n key born).reply → rose ≡ nat_lt b.decisions next.decisions → m ≡ cond rose (noted h (record { pass = pass; event = GiveBack n; reply = r })) h
-    → m ≡ cond (is_started_as key born (find (is_link n) b.lent)) (noted_of b pass (GiveBack n) h) h
-noted_back h m b next pass n key born r rose is told more noted_is = by_own (is_started_as key born (find (is_link n) b.lent)) refl
+pub noted_back : (h m : History) (b next : Book) (pass n : ℕ) (key : StartKeyOf) (started_at : ℕ) (r : Reply) (rose : Bool) → next ≡ (apply_return b n key started_at).book → r ≡ (apply_return b n key started_at).reply → rose ≡ nat_lt b.decisions next.decisions → m ≡ cond rose (noted h (record { pass = pass; event = GiveBack n; reply = r })) h
+    → m ≡ cond (is_started_as key started_at (find (is_link n) b.lent)) (noted_of b pass (GiveBack n) h) h
+noted_back h m b next pass n key started_at r rose is told more noted_is = by_own (is_started_as key started_at (find (is_link n) b.lent)) refl
   where
-    by_own : (own : Bool) → is_started_as key born (find (is_link n) b.lent) ≡ own → m ≡ cond own (noted_of b pass (GiveBack n) h) h
+    by_own : (own : Bool) → is_started_as key started_at (find (is_link n) b.lent) ≡ own → m ≡ cond own (noted_of b pass (GiveBack n) h) h
     by_own true own =
-        let same = own_return b n key born own in
+        let same = own_return b n key started_at own in
         noted_on h m b next pass (GiveBack n) (GiveBack n) r rose (is ∙ ap (λ (a : Answer). a.book) same) (told ∙ ap (λ (a : Answer). a.reply) same) refl more noted_is
-    by_own false stray = noted_is ∙ ap (λ (x : Bool). cond x (noted h (record { pass = pass; event = GiveBack n; reply = r })) h) (none_rose b next rose more (is ∙ stray_return b n key born stray))
+    by_own false stray = noted_is ∙ ap (λ (x : Bool). cond x (noted h (record { pass = pass; event = GiveBack n; reply = r })) h) (none_rose b next rose more (is ∙ stray_return b n key started_at stray))
 
-pub leads_back : (h m : History) (b next : Book) (pass n : ℕ) (key : StartKeyOf) (born : ℕ) → LeadsTo h b → next ≡ (apply_return b n key born).book → m ≡ cond (is_started_as key born (find (is_link n) b.lent)) (noted_of b pass (GiveBack n) h) h → LeadsTo m next
-leads_back h m b next pass n key born l is noted_is = by_own (is_started_as key born (find (is_link n) b.lent)) refl
+pub leads_back : (h m : History) (b next : Book) (pass n : ℕ) (key : StartKeyOf) (started_at : ℕ) → LeadsTo h b → next ≡ (apply_return b n key started_at).book → m ≡ cond (is_started_as key started_at (find (is_link n) b.lent)) (noted_of b pass (GiveBack n) h) h → LeadsTo m next
+leads_back h m b next pass n key started_at l is noted_is = by_own (is_started_as key started_at (find (is_link n) b.lent)) refl
   where
-    by_own : (own : Bool) → is_started_as key born (find (is_link n) b.lent) ≡ own → LeadsTo m next
+    by_own : (own : Bool) → is_started_as key started_at (find (is_link n) b.lent) ≡ own → LeadsTo m next
     by_own true own =
         let noted_so : m ≡ noted_of b pass (GiveBack n) h = noted_is ∙ ap (λ (x : Bool). cond x (noted_of b pass (GiveBack n) h) h) own in
-        leads_on h m b next pass (GiveBack n) l (is ∙ ap (λ (a : Answer). a.book) (own_return b n key born own)) noted_so
+        leads_on h m b next pass (GiveBack n) l (is ∙ ap (λ (a : Answer). a.book) (own_return b n key started_at own)) noted_so
     by_own false stray =
         let still : m ≡ h = noted_is ∙ ap (λ (x : Bool). cond x (noted_of b pass (GiveBack n) h) h) stray in
-        subst (λ (x : History). LeadsTo x next) (sym still) (subst (LeadsTo h) (sym (is ∙ stray_return b n key born stray)) l)
+        subst (λ (x : History). LeadsTo x next) (sym still) (subst (LeadsTo h) (sym (is ∙ stray_return b n key started_at stray)) l)
 
 -- ---- all decisions, those of the base and the kept ones
 

@@ -29,13 +29,13 @@ pub record BookOf : Type 0 where
 pub record Started : Type 0 where
   pub number : ℕ
   pub key : StartKeyOf
-  pub born : ℕ
+  pub started_at : ℕ
 
 abbrev pub started : LinkView → Started
-started l = record { number = l.number; key = l.key; born = l.born }
+started l = record { number = l.number; key = l.key; started_at = l.started_at }
 
 abbrev pub listed : Link → Started
-listed l = record { number = l.number; key = l.key; born = l.born }
+listed l = record { number = l.number; key = l.key; started_at = l.started_at }
 
 -- the links are those of the idle list, in its order
 pub record HoldsLinks (idle : List LinkView) (lists : Book) : Type 0 where
@@ -60,7 +60,7 @@ found (Some n) links = find (is_numbered n) links
 abbrev pub goes_out : ListsReply → Option ℕ
 goes_out (told.Lend n) = Some n
 goes_out (told.Close n) = Some n
-goes_out (told.Start n born evicted) = evicted
+goes_out (told.Start n started_at evicted) = evicted
 goes_out _ = None
 
 abbrev pub is_done : ListsReply → Bool
@@ -111,7 +111,7 @@ module _ {E : Type 0} where
   reply_of (reply.Client n) = told.Arrived n
   reply_of (reply.Queued n) = told.Queued n
   reply_of (reply.Lend l) = told.Lend l.number
-  reply_of (reply.Start n born evicted) = told.Start n born (number_of evicted)
+  reply_of (reply.Start n started_at evicted) = told.Start n started_at (number_of evicted)
   reply_of (reply.Close l) = told.Close l.number
   reply_of (reply.Refuse refusal back) = told.Refuse refusal
   reply_of reply.Done = told.Done
@@ -129,7 +129,7 @@ module _ {E : Type 0} where
   -- the link that comes with a reply
   abbrev pub handed : Reply E → Option LinkView
   handed (reply.Lend l) = Some l
-  handed (reply.Start n born evicted) = evicted
+  handed (reply.Start n started_at evicted) = evicted
   handed (reply.Close l) = Some l
   handed (reply.Refuse refusal back) = back
   handed (reply.Stranger back) = back
@@ -139,11 +139,11 @@ module _ {E : Type 0} where
 
   -- a link that is given back is one that was started as this
   abbrev pub is_own : Book → Event E → Bool
-  is_own b (event.GiveBack l) = is_started_as l.key l.born (find (is_link l.number) b.lent)
+  is_own b (event.GiveBack l) = is_started_as l.key l.started_at (find (is_link l.number) b.lent)
   is_own b (event.Plain e) = true
 
   abbrev pub answered : Book → Event E → Answer
-  answered b (event.GiveBack l) = apply_return b l.number l.key l.born
+  answered b (event.GiveBack l) = apply_return b l.number l.key l.started_at
   answered b (event.Plain e) = apply b (event_of e)
 
   abbrev pub history_after : Book → ℕ → Event E → History → History

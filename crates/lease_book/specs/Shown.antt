@@ -67,7 +67,7 @@ abbrev pub reply_name : Reply → List ℕ
 reply_name (Arrived client) = codes "arrived"
 reply_name (Queued before) = codes "queued"
 reply_name (Lend link) = codes "lend"
-reply_name (Start link born evicted) = codes "start"
+reply_name (Start link started_at evicted) = codes "start"
 reply_name (Close link) = codes "close"
 reply_name (Refuse refusal) = codes "refuse"
 reply_name Done = codes "done"
@@ -96,7 +96,7 @@ abbrev pub reply_number : Reply → ℕ
 reply_number (Arrived client) = client
 reply_number (Queued before) = before
 reply_number (Lend link) = link
-reply_number (Start link born evicted) = link
+reply_number (Start link started_at evicted) = link
 reply_number (Close link) = link
 reply_number (Refuse refusal) = refusal_number refusal
 reply_number (Strike link server) = link

@@ -92,9 +92,16 @@ fn reply_with<E: ServerEnd>(
     match (told, link) {
         (lists::Reply::Lend(_), Some(link)) => Reply::Lend(link),
         (lists::Reply::Close(_), Some(link)) => Reply::Close(link),
-        (lists::Reply::Start { link, born, .. }, evicted) => Reply::Start {
+        (
+            lists::Reply::Start {
+                link,
+                started_at,
+                ..
+            },
+            evicted,
+        ) => Reply::Start {
             number: link,
-            born,
+            started_at,
             evicted,
         },
         (lists::Reply::Arrived(client), _) => Reply::Client(client),
@@ -255,16 +262,18 @@ impl<E: ServerEnd> Book<E> {
     #[tactic(auto, using(crate::proofs::Returns::done_kept, crate::proofs::Striking::back_in_place))]
     fn give_back(&mut self, pass: u64, link: CleanLink<E>) -> Reply<E>
         ensures kept { Kept self.new.lists }
-        ensures lists { self.new.lists ≡ (apply_return self.old.lists link.number link.key link.born).book }
-        ensures history { self.new.history ≡ cond (is_started_as link.key link.born (find (is_link link.number) self.old.lists.lent)) (noted_of self.old.lists pass (GiveBack link.number) self.old.history) self.old.history }
-        ensures reply { reply_of result ≡ (apply_return self.old.lists link.number link.key link.born).reply }
+        ensures lists { self.new.lists ≡ (apply_return self.old.lists link.number link.key link.started_at).book }
+        ensures history { self.new.history ≡ cond (is_started_as link.key link.started_at (find (is_link link.number) self.old.lists.lent)) (noted_of self.old.lists pass (GiveBack link.number) self.old.history) self.old.history }
+        ensures reply { reply_of result ≡ (apply_return self.old.lists link.number link.key link.started_at).reply }
         ensures place { StrikesInPlace self.old.lists result }
-        ensures idle { self.new.idle ≡ idle_with link (apply_return self.old.lists link.number link.key link.born).reply self.old.idle }
-        ensures handed { handed result ≡ handed_back link (apply_return self.old.lists link.number link.key link.born).reply }
+        ensures idle { self.new.idle ≡ idle_with link (apply_return self.old.lists link.number link.key link.started_at).reply self.old.idle }
+        ensures handed { handed result ≡ handed_back link (apply_return self.old.lists link.number link.key link.started_at).reply }
     {
         let number = link.number();
         let before = self.lists.decisions();
-        let reply = self.lists.apply_return(number, link.key(), link.born());
+        let reply = self
+            .lists
+            .apply_return(number, link.key(), link.started_at());
         let is_decision = self.lists.decisions() > before;
         let event = KeptEvent::returned(number);
         self.history

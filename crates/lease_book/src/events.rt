@@ -26,7 +26,7 @@ pub enum Reply<E: ServerEnd> {
     /// A link of this number and second of birth is to be started for the client, once this idle one is closed.
     Start {
         number: u64,
-        born: u64,
+        started_at: u64,
         evicted: Option<CleanLink<E>>,
     },
     /// This link is to be closed.

@@ -11,7 +11,7 @@ module _ {E : Type 0} where
   abbrev pub IsAnswerToTake : Reply → Grant E → Type 0
   IsAnswerToTake (reply.Queued before) grant.Queued = Unit {0}
   IsAnswerToTake (reply.Lend n) (grant.Lend l) = l.number ≡ n
-  IsAnswerToTake (reply.Start n born evicted) (grant.Start number since link) = (number ≡ n) × (since ≡ born) × (option_map (λ (l : LinkView). l.number) link ≡ evicted)
+  IsAnswerToTake (reply.Start n started_at evicted) (grant.Start number since link) = (number ≡ n) × (since ≡ started_at) × (option_map (λ (l : LinkView). l.number) link ≡ evicted)
   IsAnswerToTake (reply.Refuse refusal) (grant.Refused told) = told ≡ refusal
   IsAnswerToTake reply.Stranger grant.Stranger = Unit {0}
   IsAnswerToTake _ _ = ⊥
@@ -19,5 +19,5 @@ module _ {E : Type 0} where
   -- the link that comes with it
   abbrev pub link_in : Grant E → Option LinkView
   link_in (grant.Lend l) = Some l
-  link_in (grant.Start number born evicted) = evicted
+  link_in (grant.Start number started_at evicted) = evicted
   link_in _ = None

@@ -94,7 +94,7 @@ module _ {E : Type 0} where
   abbrev pub after_grant : PassOf → Grant E → PassOf
   after_grant p grant.Queued = p
   after_grant p (grant.Lend l) = one_granted p
-  after_grant p (grant.Start number born evicted) = one_granted p
+  after_grant p (grant.Start number started_at evicted) = one_granted p
   after_grant p (grant.Refused refusal) = after_refusal p refusal
   after_grant p grant.Stranger = broken p
 
@@ -145,7 +145,7 @@ abbrev pub new_holder : Holder
 new_holder = record { client = None; lease = None; release = None; refused = None; found = None; struck = None; last = None }
 
 abbrev pub lease_at : Stage → LinkView → Lease
-lease_at stage l = record { number = l.number; born = l.born; stage = stage }
+lease_at stage l = record { number = l.number; started_at = l.started_at; stage = stage }
 
 -- a link's lease as it begins, and once it has ended without a cancel
 abbrev pub granted_lease : LinkView → Lease
@@ -187,7 +187,7 @@ module _ {E : Type 0} where
   abbrev pub taken : Holder → Grant E → Holder
   taken h grant.Queued = h
   taken h (grant.Lend l) = record h { lease = Some (granted_lease l); last = of_client call.Take h }
-  taken h (grant.Start number born evicted) = record h { lease = Some (record { number = number; born = born; stage = Granted }); last = of_client call.Take h }
+  taken h (grant.Start number started_at evicted) = record h { lease = Some (record { number = number; started_at = started_at; stage = Granted }); last = of_client call.Take h }
   taken h (grant.Refused refusal) = record h { refused = Some refusal; last = of_client call.Take h }
   taken h grant.Stranger = record h { last = of_client call.Take h }
 

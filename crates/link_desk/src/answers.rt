@@ -37,7 +37,7 @@ pub enum Grant<E: ServerEnd> {
     /// A link of this number and second of birth is to be started, once this idle one is closed.
     Start {
         number: u64,
-        born: u64,
+        started_at: u64,
         evicted: Option<CleanLink<E>>,
     },
     /// It is refused: it has waited too long, the pooler is shutting down, or the book has made its last decision.

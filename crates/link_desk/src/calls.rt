@@ -57,7 +57,7 @@ pub enum Stage {
 #[derive(Clone, Copy, Drop)]
 pub struct Lease {
     pub number: u64,
-    pub born: u64,
+    pub started_at: u64,
     pub stage: Stage,
 }
 

@@ -21,7 +21,7 @@ pub record LinkView : Type 0 where
   pub stands : Standing
   pub key : StartKeyOf
   pub number : ℕ
-  pub born : ℕ
+  pub started_at : ℕ
   -- the words of its server's BackendKeyData, if it sent one
   pub server_key : Option KeyView
   -- what its start reported, and of which parameters another value was told since

@@ -19,7 +19,7 @@ pub struct LinkParts<E: ServerEnd> {
     pub key: Arc<StartKey>,
     /// Its number, and the second in which it was begun.
     pub number: u64,
-    pub born: u64,
+    pub started_at: u64,
     /// The words of its server's BackendKeyData, if it sent one.
     pub server_key: Option<KeyView>,
     /// What its start reported, and whether the server has told otherwise since.
@@ -46,7 +46,7 @@ impl<E: ServerEnd> Model for CleanLink<E> {
 
     ghost Value = { LinkView };
 
-    ghost view = { λ l. record { stands = E.standing l.link.end; key = arc_value l.link.key; number = l.link.number; born = l.link.born; server_key = l.link.server_key; reports = l.link.reported } };
+    ghost view = { λ l. record { stands = E.standing l.link.end; key = arc_value l.link.key; number = l.link.number; started_at = l.link.started_at; server_key = l.link.server_key; reports = l.link.reported } };
 
     ghost invariant = { λ l. IsClean (E.standing l.link.end) (arc_value l.link.key) l.link.server_key l.link.reported };
 }
@@ -70,7 +70,7 @@ impl<E: ServerEnd> Model for UsedLink<E> {
 
     ghost Value = { LinkView };
 
-    ghost view = { λ l. record { stands = E.standing l.link.end; key = arc_value l.link.key; number = l.link.number; born = l.link.born; server_key = l.link.server_key; reports = l.link.reported } };
+    ghost view = { λ l. record { stands = E.standing l.link.end; key = arc_value l.link.key; number = l.link.number; started_at = l.link.started_at; server_key = l.link.server_key; reports = l.link.reported } };
 
     ghost invariant = { λ l. IsUsed (E.standing l.link.end) (arc_value l.link.key) l.link.server_key l.link.reported };
 }
@@ -84,10 +84,10 @@ impl<E: ServerEnd> CleanLink<E> {
     }
 
     /// The second in which it was begun.
-    pub fn born(&self) -> u64
-        ensures { result ≡ self.now.born }
+    pub fn started_at(&self) -> u64
+        ensures { result ≡ self.now.started_at }
     {
-        self.link.born
+        self.link.started_at
     }
 
     /// The words by which the link's server lets its session be cancelled: those of the BackendKeyData that it sent while the link
@@ -133,7 +133,7 @@ impl<E: ServerEnd> CleanLink<E> {
         ensures stands { E.standing result.end ≡ self.stands }
         ensures key { arc_value result.key ≡ self.key }
         ensures number { result.number ≡ self.number }
-        ensures born { result.born ≡ self.born }
+        ensures started_at { result.started_at ≡ self.started_at }
         ensures server_key { result.server_key ≡ self.server_key }
         ensures reports { result.reported ≡ self.reports }
         ensures clean { IsClean (E.standing result.end) (arc_value result.key) result.server_key result.reported }
@@ -149,7 +149,7 @@ impl<E: ServerEnd> UsedLink<E> {
         ensures stands { E.standing result.end ≡ self.stands }
         ensures key { arc_value result.key ≡ self.key }
         ensures number { result.number ≡ self.number }
-        ensures born { result.born ≡ self.born }
+        ensures started_at { result.started_at ≡ self.started_at }
         ensures server_key { result.server_key ≡ self.server_key }
         ensures reports { result.reported ≡ self.reports }
         ensures used { IsUsed (E.standing result.end) (arc_value result.key) result.server_key result.reported }
@@ -166,7 +166,7 @@ impl<E: ServerEnd> LinkParts<E> {
         ensures stands { result.stands ≡ E.standing self.end }
         ensures key { result.key ≡ arc_value self.key }
         ensures number { result.number ≡ self.number }
-        ensures born { result.born ≡ self.born }
+        ensures started_at { result.started_at ≡ self.started_at }
         ensures server_key { result.server_key ≡ self.server_key }
         ensures reports { result.reports ≡ self.reported }
     {
@@ -179,7 +179,7 @@ impl<E: ServerEnd> LinkParts<E> {
         ensures stands { result.stands ≡ E.standing self.end }
         ensures key { result.key ≡ arc_value self.key }
         ensures number { result.number ≡ self.number }
-        ensures born { result.born ≡ self.born }
+        ensures started_at { result.started_at ≡ self.started_at }
         ensures server_key { result.server_key ≡ self.server_key }
         ensures reports { result.reports ≡ self.reported }
     {

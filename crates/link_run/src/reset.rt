@@ -69,9 +69,9 @@ impl<E: ServerEnd> Model for Reset<E> {
 
     ghost Value = { ResetView };
 
-    ghost view = { λ r. reset_view (E.standing r.link.end) (arc_value r.link.key) r.link.number r.link.born r.link.server_key r.link.reported (drop r.sent (spelling discard_all)) r.reply.items };
+    ghost view = { λ r. reset_view (E.standing r.link.end) (arc_value r.link.key) r.link.number r.link.started_at r.link.server_key r.link.reported (drop r.sent (spelling discard_all)) r.reply.items };
 
-    ghost invariant = { λ r. (r.sent ≤ 17) × IsReset (reset_view (E.standing r.link.end) (arc_value r.link.key) r.link.number r.link.born r.link.server_key r.link.reported (drop r.sent (spelling discard_all)) r.reply.items) };
+    ghost invariant = { λ r. (r.sent ≤ 17) × IsReset (reset_view (E.standing r.link.end) (arc_value r.link.key) r.link.number r.link.started_at r.link.server_key r.link.reported (drop r.sent (spelling discard_all)) r.reply.items) };
 }
 
 /// The fault of a read or a write.
@@ -89,7 +89,7 @@ impl<E: ServerEnd> Reset<E> {
     fn begin(alloc: Global, used: UsedLink<E>) -> Reset<E>
         ensures key { result.key ≡ used.key }
         ensures number { result.number ≡ used.number }
-        ensures born { result.born ≡ used.born }
+        ensures started_at { result.started_at ≡ used.started_at }
         ensures server_key { result.server_key ≡ used.server_key }
         ensures reports { result.reports ≡ used.reports }
         ensures from { IsResetFrom used.stands result }
@@ -108,7 +108,7 @@ impl<E: ServerEnd> Reset<E> {
     fn send(&mut self) -> Result<(), ResetError>
         ensures key { self.new.key ≡ self.old.key }
         ensures number { self.new.number ≡ self.old.number }
-        ensures born { self.new.born ≡ self.old.born }
+        ensures started_at { self.new.started_at ≡ self.old.started_at }
         ensures server_key { self.new.server_key ≡ self.old.server_key }
         ensures reports { self.new.reports ≡ self.old.reports }
         ensures received { self.new.received ≡ self.old.received }
@@ -132,7 +132,7 @@ impl<E: ServerEnd> Reset<E> {
     fn receive(&mut self) -> Result<(), ResetError>
         ensures key { self.new.key ≡ self.old.key }
         ensures number { self.new.number ≡ self.old.number }
-        ensures born { self.new.born ≡ self.old.born }
+        ensures started_at { self.new.started_at ≡ self.old.started_at }
         ensures server_key { self.new.server_key ≡ self.old.server_key }
         ensures reports { self.new.reports ≡ self.old.reports }
         ensures keeps { KeepsReset self.old self.new }
@@ -171,7 +171,7 @@ impl<E: ServerEnd> Reset<E> {
         requires { IsAnsweredReset self }
         ensures key { IfOk result (λ l. l.key ≡ self.key) }
         ensures number { IfOk result (λ l. l.number ≡ self.number) }
-        ensures born { IfOk result (λ l. l.born ≡ self.born) }
+        ensures started_at { IfOk result (λ l. l.started_at ≡ self.started_at) }
         ensures server_key { IfOk result (λ l. l.server_key ≡ self.server_key) }
         ensures reports { IfOk result (λ l. is_at_start l.reports ≡ true) }
         ensures whole { IfOk result (λ l. EndsDialogue self l) }
@@ -213,7 +213,7 @@ fn dispose<E: ServerEnd>(link: LinkParts<E>, cause: ResetError) -> Disposed<E>
         end,
         key: _,
         number: _,
-        born: _,
+        started_at: _,
         server_key: _,
         reported: _,
     } = link;
@@ -236,7 +236,7 @@ pub fn reset_link<E: ServerEnd, G: Gate<E>>(
 ) -> Result<CleanLink<E>, Disposed<E>>
     ensures key { IfOk result (λ l. l.key ≡ used.key) }
     ensures number { IfOk result (λ l. l.number ≡ used.number) }
-    ensures born { IfOk result (λ l. l.born ≡ used.born) }
+    ensures started_at { IfOk result (λ l. l.started_at ≡ used.started_at) }
     ensures server_key { IfOk result (λ l. l.server_key ≡ used.server_key) }
     ensures reports { IfOk result (λ l. is_at_start l.reports ≡ true) }
     ensures whole { IfOk result (λ l. IsResetDialogue used.stands used.reports l.stands l.reports) }

@@ -403,22 +403,22 @@ refused_cause began cred v error c k x bytes h e = (
 -- an answer behind those that were given, which is the next one where the server follows
 pub next_answered : (began : Standing) (cred : CredentialOf) (v : StartView) (q : ServerQuestion) (w body : List ℕ) → CanStart cred v.key.user began → IsLinkKey v.key → IsStartUnderWay began cred v → AreBytes v.received → heard cred v.received ≡ Asked q
     → v.answered + 1 ≡ answers_wanted q → answer_to cred v.key.user q ≡ Some body → w ≡ v.unsent ++ spelling (answer_message body) → 4 + length body < 2 ^ 32
-    → IsStartUnderWay began cred (start_view v.end v.key v.number v.born (v.answered + 1) w v.received)
+    → IsStartUnderWay began cred (start_view v.end v.key v.number v.started_at (v.answered + 1) w v.received)
 next_answered began cred v q w body c k x bytes h one s e l =
-    start_answered began v.end cred v.key v.number v.born v.answered v.unsent w v.received body e l x
+    start_answered began v.end cred v.key v.number v.started_at v.answered v.unsent w v.received body e l x
     (λ f. let n = (question_is began cred v c k x f bytes q h).next (omega (arith, one, x.count)) in (n.own body s, n.to body))
 
 -- a server that follows asks no question before the one before it is answered
 pub early_answered : (began : Standing) (cred : CredentialOf) (v : StartView) (q : ServerQuestion) (w body : List ℕ) → CanStart cred v.key.user began → IsLinkKey v.key → IsStartUnderWay began cred v → AreBytes v.received → heard cred v.received ≡ Asked q
     → v.answered + 1 < answers_wanted q → w ≡ v.unsent ++ spelling (answer_message body) → 4 + length body < 2 ^ 32
-    → IsStartUnderWay began cred (start_view v.end v.key v.number v.born (v.answered + 1) w v.received)
+    → IsStartUnderWay began cred (start_view v.end v.key v.number v.started_at (v.answered + 1) w v.received)
 early_answered began cred v q w body c k x bytes h early e l =
-    start_answered began v.end cred v.key v.number v.born v.answered v.unsent w v.received body e l x
+    start_answered began v.end cred v.key v.number v.started_at v.answered v.unsent w v.received body e l x
     (λ f. absurd (omega (arith, early, x.count, (question_is began cred v c k x f bytes q h).bound)))
 
 -- it takes no more bytes than were left for it
 pub left_answered : (v : StartView) (w body : List ℕ) → w ≡ v.unsent ++ spelling (answer_message body) → 4 + length body < 2 ^ 32 → v.answered + 1 ≤ 2
-    → bytes_left (start_view v.end v.key v.number v.born (v.answered + 1) w v.received) ≤ bytes_left v
+    → bytes_left (start_view v.end v.key v.number v.started_at (v.answered + 1) w v.received) ≤ bytes_left v
 left_answered v w body e l two =
     omega (arith, l, two, ap length e, length-append v.unsent (spelling (answer_message body)), length-append (to_be_bytes w32 (4 + length body)) body)
 

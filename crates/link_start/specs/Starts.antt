@@ -99,14 +99,14 @@ pub record StartView : Type 0 where
   pub end : Standing
   pub key : StartKeyOf
   pub number : ℕ
-  pub born : ℕ
+  pub started_at : ℕ
   -- so many answers were given
   pub answered : ℕ
   pub unsent : List ℕ
   pub received : List ℕ
 
 abbrev pub start_view : Standing → StartKeyOf → ℕ → ℕ → ℕ → List ℕ → List ℕ → StartView
-start_view end key number born answered unsent received = record { end = end; key = key; number = number; born = born; answered = answered; unsent = unsent; received = received }
+start_view end key number started_at answered unsent received = record { end = end; key = key; number = number; started_at = started_at; answered = answered; unsent = unsent; received = received }
 
 -- they are this user's own answers to these questions, or the first of them
 abbrev pub AreOwnFrom : CredentialOf → Text → StartProgress → List Round → List (List ℕ) → Type 0
@@ -131,7 +131,7 @@ abbrev pub IsLost : Standing → Standing → Type 0
 IsLost old new = (new.lives ≡ false) ⊎ (old.faults < new.faults)
 
 abbrev pub IsSameStart : StartView → StartView → Type 0
-IsSameStart old new = (new.key ≡ old.key) × (new.number ≡ old.number) × (new.born ≡ old.born)
+IsSameStart old new = (new.key ≡ old.key) × (new.number ≡ old.number) × (new.started_at ≡ old.started_at)
 
 -- ---- what it ends with
 
@@ -154,7 +154,7 @@ IsDone v = (began : Standing) × ((c : CredentialOf) × IsDoneFrom began c v)
 pub record IsStarted (began : Standing) (c : CredentialOf) (l : LinkView) : Type 0 where
   pub received : List ℕ
   pub answered : ℕ
-  pub under_way : IsStartUnderWay began c (start_view l.stands l.key l.number l.born answered [] received)
+  pub under_way : IsStartUnderWay began c (start_view l.stands l.key l.number l.started_at answered [] received)
   pub ready : spec.heard c received ≡ heard.Ready
   pub reports : reported_all [] (frames Server MAX_REPLY received).frames ≡ Some l.reports
   pub tells_key : TellsKey (frames Server MAX_REPLY received).frames l.server_key

@@ -23,7 +23,7 @@ pub fn close_link<E: ServerEnd>(link: CleanLink<E>) -> E
         mut end,
         key: _,
         number: _,
-        born: _,
+        started_at: _,
         server_key: _,
         reported: _,
     } = link.lend();

@@ -139,7 +139,7 @@ struct Start<E: ServerEnd> {
     end: E,
     key: Arc<StartKey>,
     number: u64,
-    born: u64,
+    started_at: u64,
     answered: usize,
     messages: BytesMut,
     sent: usize,
@@ -152,7 +152,7 @@ impl<E: ServerEnd> Drop for Start<E> {
             end: _,
             key: _,
             number: _,
-            born: _,
+            started_at: _,
             answered: _,
             messages: _,
             sent: _,
@@ -168,7 +168,7 @@ impl<E: ServerEnd> Model for Start<E> {
 
     ghost Value = { StartView };
 
-    ghost view = { λ s. start_view (E.standing s.end) (arc_value s.key) s.number s.born s.answered (drop s.sent s.messages.items) s.reply.items };
+    ghost view = { λ s. start_view (E.standing s.end) (arc_value s.key) s.number s.started_at s.answered (drop s.sent s.messages.items) s.reply.items };
 
     ghost invariant = { λ s. s.sent ≤ length s.messages.items };
 }
@@ -202,10 +202,10 @@ impl<E: ServerEnd> Start<E> {
         end: E,
         key: Arc<StartKey>,
         number: u64,
-        born: u64,
+        started_at: u64,
     ) -> Result<Start<E>, StartLinkError<E>>
         ensures under_way { IfOk result (λ s. (c : CredentialOf) → IsStartUnderWay (E.standing end) c s) }
-        ensures same { IfOk result (λ s. (s.key ≡ arc_value key) × (s.number ≡ number) × (s.born ≡ born)) }
+        ensures same { IfOk result (λ s. (s.key ≡ arc_value key) × (s.number ≡ number) × (s.started_at ≡ started_at)) }
         ensures stands { IfOk result (λ s. s.end ≡ E.standing end) }
         ensures none { IfOk result (λ s. length s.received ≡ 0) }
         ensures waits { IfOk result (λ s. (c : CredentialOf) → IsWaitingStart c s) }
@@ -222,7 +222,7 @@ impl<E: ServerEnd> Start<E> {
             end,
             key,
             number,
-            born,
+            started_at,
             answered: 0,
             messages,
             sent: 0,
@@ -444,7 +444,7 @@ impl<E: ServerEnd> Start<E> {
         ensures own_key { (b : Standing) (c : CredentialOf) → IsDoneFrom b c self → b.follows ≡ true → IfOk result (λ l. IsOwnKey b.server l.server_key) }
         ensures key { IfOk result (λ l. l.key ≡ self.key) }
         ensures number { IfOk result (λ l. l.number ≡ self.number) }
-        ensures born { IfOk result (λ l. l.born ≡ self.born) }
+        ensures started_at { IfOk result (λ l. l.started_at ≡ self.started_at) }
         ensures stands { IfOk result (λ l. l.stands ≡ self.end) }
         ensures back { IfErr result (λ f. E.standing f.end ≡ self.end) }
         ensures no_turns { IfErr result (λ f. f.cause ≢ causes.Turns) }
@@ -455,7 +455,7 @@ impl<E: ServerEnd> Start<E> {
             end,
             key,
             number,
-            born,
+            started_at,
             answered: _,
             messages: _,
             sent: _,
@@ -473,7 +473,7 @@ impl<E: ServerEnd> Start<E> {
                 end,
                 key,
                 number,
-                born,
+                started_at,
                 server_key,
                 reported,
             }
@@ -497,7 +497,7 @@ impl<E: ServerEnd> Start<E> {
             end,
             key: _,
             number: _,
-            born: _,
+            started_at: _,
             answered: _,
             messages: _,
             sent: _,
@@ -517,7 +517,7 @@ impl<E: ServerEnd> Start<E> {
 /// Unexpected. And the gate has its time, if it was set a limit: before each turn it is asked whether that is over, whatever came in the
 /// turns before, and then the start fails by Late.
 ///
-/// `number` and `born` are kept in the link: its number, and the second in which it was begun. So is the server's key, that of the
+/// `number` and `started_at` are kept in the link: its number, and the second in which it was begun. So is the server's key, that of the
 /// last BackendKeyData of the dialogue; where the end follows, those are the server's own words. Where it fails the end comes back
 /// with the cause, which stands in the bytes that came: an ErrorResponse, a question that this user can't answer, or something else
 /// ends the start at once, and a cause that came stays one, whatever comes behind it, wherever the bytes are cut. It is Turns only after
@@ -528,7 +528,7 @@ pub fn start_link<E: ServerEnd, G: Gate<E>>(
     key: Arc<StartKey>,
     credential: &Credential<'_>,
     number: u64,
-    born: u64,
+    started_at: u64,
     gate: &mut G,
     turns: u32,
 ) -> Result<CleanLink<E>, StartLinkError<E>>
@@ -538,7 +538,7 @@ pub fn start_link<E: ServerEnd, G: Gate<E>>(
     ensures own_key { (E.standing end).follows ≡ true → IfOk result (λ l. IsOwnKey (E.standing end).server l.server_key) }
     ensures key { IfOk result (λ l. l.key ≡ arc_value key) }
     ensures number { IfOk result (λ l. l.number ≡ number) }
-    ensures born { IfOk result (λ l. l.born ≡ born) }
+    ensures started_at { IfOk result (λ l. l.started_at ≡ started_at) }
     ensures cause { IfErr result (λ f. IsStartCause (E.standing end) (E.standing f.end) credential.now (arc_value key) f.cause) }
     ensures turns { IfErr result (λ f. f.cause ≡ causes.Turns → HasTried (E.standing end) credential.now (arc_value key) (E.standing f.end) turns) }
     ensures late { IfErr result (λ f. f.cause ≡ causes.Late → G.late gate.new ≡ true) }
@@ -548,7 +548,7 @@ pub fn start_link<E: ServerEnd, G: Gate<E>>(
     ensures paced { IfErr result (λ f. IsStartPaced (E.standing end) (E.standing f.end) (G.turns gate.old) (G.turns gate.new)) }
     ensures last { IfOk result (λ l. IsStartPacedToEnd (E.standing end) l.stands (G.turns gate.old) (G.turns gate.new)) }
 {
-    let mut start = Start::begin(alloc, end, key, number, born)?;
+    let mut start = Start::begin(alloc, end, key, number, started_at)?;
     let mut left = turns;
     while left > 0 {
         if gate.is_late() {

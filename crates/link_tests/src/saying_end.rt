@@ -108,7 +108,7 @@ pub fn saying_link(
         end: SayingEnd::new(&key, words, cut)?,
         key,
         number: 1,
-        born: 0,
+        started_at: 0,
         server_key: None,
         reported: Reported::new(alloc),
     };

@@ -23,7 +23,7 @@ fn digest() -> [u8; 35] {
 #[derive(Clone, Copy, PartialEq, Drop)]
 struct Begun {
     number: u64,
-    born: u64,
+    started_at: u64,
     welcome: usize,
     server_key: Option<KeyView>,
 }
@@ -31,7 +31,7 @@ struct Begun {
 /// The link of number 5 and birth 9 to the server whose words are 7 and 8.
 const BEGUN: Begun = Begun {
     number: 5,
-    born: 9,
+    started_at: 9,
     welcome: 251,
     server_key: Some(KeyView { pid: 7, secret: 8 }),
 };
@@ -64,7 +64,7 @@ fn told_by<E: ServerEnd, G: Gate<E>>(
             let welcome = welcome_over(alloc, &link, word)?;
             Ok(Ok(Begun {
                 number: link.number(),
-                born: link.born(),
+                started_at: link.started_at(),
                 welcome: welcome.len(),
                 server_key: link.server_key(),
             }))

@@ -203,13 +203,13 @@ impl MemoryPool {
             Reply::Lend(link) => Ok(self.lent(link, key)),
             Reply::Start {
                 number,
-                born,
+                started_at,
                 evicted,
             } => {
                 if let Some(link) = evicted {
                     close_link(link);
                 }
-                self.start(key, number, born)
+                self.start(key, number, started_at)
             }
             Reply::Queued(_) => Ok(Taken::Waits),
             Reply::Refuse(refusal, _) => Ok(Taken::Refused(refusal)),
@@ -257,7 +257,7 @@ impl MemoryPool {
         server: MemoryServer,
         key: Arc<StartKey>,
         number: u64,
-        born: u64,
+        started_at: u64,
     ) -> Result<CleanLink<MemoryServer>, StartLinkError<MemoryServer>>
         requires server { IsNewServer self.now.catalogue server.standing }
         requires key { IsLinkKey (arc_value key) }
@@ -274,7 +274,7 @@ impl MemoryPool {
             key,
             &credential,
             number,
-            born,
+            started_at,
             &mut OpenGate::new(),
             TURNS,
         )
@@ -282,14 +282,19 @@ impl MemoryPool {
 
     /// A new link of this key.
     #[tactic(auto, using(crate::proofs::Starting::refusal_is_told))]
-    fn start(&mut self, key: &Arc<StartKey>, number: u64, born: u64) -> Result<Taken, AllocError>
+    fn start(
+        &mut self,
+        key: &Arc<StartKey>,
+        number: u64,
+        started_at: u64,
+    ) -> Result<Taken, AllocError>
         requires { IsLinkKey (arc_value key.now) }
         ensures same { self.new ≡ self.old }
         ensures taken { IfOk result (IsTaken self.old.catalogue (arc_value key.now)) }
     {
         let server = self.server()?;
         let key = Arc::try_clone(key)?;
-        match self.open(server, key, number, born) {
+        match self.open(server, key, number, started_at) {
             Ok(link) => Ok(Taken::Link(link)),
             Err(fault) => {
                 self.fail_start(number);

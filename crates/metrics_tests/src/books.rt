@@ -72,7 +72,7 @@ fn link(alloc: Global, number: u64, user: &[u8]) -> Result<Link, AllocError> {
     Ok(Link {
         number,
         key: key(alloc, user)?,
-        born: 2,
+        started_at: 2,
         since: 3,
     })
 }

@@ -37,7 +37,7 @@ moment_of v x second = moment (x.second - (v.clock - second))
 unfoldable pub server_row : View → SeenOf → Text → Link → List Text
 server_row v x state l =
     codes "S" ∷ l.key.user ∷ l.key.row ∷ state ∷ host_text l.key.host ∷ decimal l.key.port ∷ [] ∷ decimal 0
-    ∷ moment_of v x l.born ∷ moment_of v x l.since ∷ map decimal (0 ∷ 0 ∷ 0 ∷ l.number ∷ []) ++ holder_text (holder_of l.number x)
+    ∷ moment_of v x l.started_at ∷ moment_of v x l.since ∷ map decimal (0 ∷ 0 ∷ 0 ∷ l.number ∷ []) ++ holder_text (holder_of l.number x)
     ∷ decimal (process_of (holder_of l.number x)) ∷ [] ∷ [] ∷ codes "none" ∷ map decimal (0 ∷ l.number ∷ [])
 
 abbrev pub servers : View → SeenOf → List (List Text)

@@ -89,7 +89,7 @@ fn server_row(
         .with_number(alloc, key.port as u64)?
         .with(alloc, b"")?
         .with_number(alloc, 0)?
-        .with(alloc, &moment_of(alloc, view, seen, link.born)?)?
+        .with(alloc, &moment_of(alloc, view, seen, link.started_at)?)?
         .with(alloc, &moment_of(alloc, view, seen, link.since)?)?
         .with_numbers(alloc, &[0, 0, 0, link.number])?
         .with(alloc, &holder_text(alloc, holder)?)?

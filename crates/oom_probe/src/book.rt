@@ -47,14 +47,14 @@ fn gone_link(
     alloc: Global,
     key: Arc<StartKey>,
     number: u64,
-    born: u64,
+    started_at: u64,
 ) -> Result<CleanLink<GoneEnd>, AllocError> {
     unfollowed_starts_are_clean();
     let parts = LinkParts {
         end: GoneEnd::of(&key)?,
         key,
         number,
-        born,
+        started_at,
         server_key: None,
         reported: Reported::new(alloc),
     };
@@ -68,10 +68,15 @@ fn started(
     key: &Arc<StartKey>,
     client: u64,
 ) -> Result<CleanLink<GoneEnd>, AllocError> {
-    let Reply::Start { number, born, .. } = happens(book, Event::Take { client }) else {
+    let Reply::Start {
+        number,
+        started_at,
+        ..
+    } = happens(book, Event::Take { client })
+    else {
         return Err(AllocError);
     };
-    gone_link(alloc, Arc::try_clone(key)?, number, born)
+    gone_link(alloc, Arc::try_clone(key)?, number, started_at)
 }
 
 /// A book with a client that has a link, one that waits, and a link that lies idle.

@@ -91,7 +91,7 @@ fn put_link<E: ServerEnd>(
     link: &CleanLink<E>,
     out: &mut Vec<u8>,
 ) -> Result<(), AllocError> {
-    put_numbers(b"link", &[link.number(), link.born()], out)?;
+    put_numbers(b"link", &[link.number(), link.started_at()], out)?;
     put_bytes(alloc, b"user", link.key().user.as_slice(), out)?;
     for report in link.reports() {
         put_bytes(alloc, report.name(), report.value(), out)?;

@@ -280,19 +280,19 @@ counted_own : (b : Book) (n : ℕ) (own : Bool) → Counted b (GiveBack n) (cond
 counted_own b n true = counted_apply b (GiveBack n)
 counted_own b n false = record { kind = None; counts = refl; tells = λ p. refl }
 
-pub counted_return : (b : Book) (n : ℕ) (key : StartKeyOf) (born : ℕ) → Counted b (GiveBack n) (apply_return b n key born)
+pub counted_return : (b : Book) (n : ℕ) (key : StartKeyOf) (started_at : ℕ) → Counted b (GiveBack n) (apply_return b n key started_at)
 unfolding apply_return
-counted_return b n key born = by_last (b.decisions == last_decision)
+counted_return b n key started_at = by_last (b.decisions == last_decision)
   where
-    by_last : (last : Bool) → Counted b (GiveBack n) (cond last (record { book = b; reply = Refuse LastDecision }) (cond (is_started_as key born (find (is_link n) b.lent)) (apply b (GiveBack n)) (record { book = b; reply = Stranger })))
+    by_last : (last : Bool) → Counted b (GiveBack n) (cond last (record { book = b; reply = Refuse LastDecision }) (cond (is_started_as key started_at (find (is_link n) b.lent)) (apply b (GiveBack n)) (record { book = b; reply = Stranger })))
     by_last true = counted_last b (GiveBack n)
-    by_last false = counted_own b n (is_started_as key born (find (is_link n) b.lent))
+    by_last false = counted_own b n (is_started_as key started_at (find (is_link n) b.lent))
 
 -- ---- the book with its links
 
 module _ {E : Type 0} where
   counted_event : (b : Book) (e : LinkEvent E) → Counted b (plain e) (answered b e)
-  counted_event b (event.GiveBack l) = counted_return b l.number l.key l.born
+  counted_event b (event.GiveBack l) = counted_return b l.number l.key l.started_at
   counted_event b (event.Plain e) = counted_apply b (event_of e)
 
   -- the counts after an event are those before, and one more

@@ -52,7 +52,7 @@ module _ {E : Type 0} where
   heard h (call.Take client) (reply.Refuse refusal back) = record h { refused = Some refusal; last = Some (call.Take client) }
   heard h (call.Take client) (reply.Queued before) = h
   heard h (call.Take client) (reply.Lend l) = record h { lease = Some (granted_lease l); last = Some (call.Take client) }
-  heard h (call.Take client) (reply.Start n born evicted) = record h { lease = Some (record { number = n; born = born; stage = Granted }); last = Some (call.Take client) }
+  heard h (call.Take client) (reply.Start n started_at evicted) = record h { lease = Some (record { number = n; started_at = started_at; stage = Granted }); last = Some (call.Take client) }
   heard h (call.Keyed n client server) reply.Done = record (at_stage Keyed h) { last = Some (call.Keyed n client server) }
   heard h (call.EndLease n) reply.Reset = record (at_stage Ended h) { release = Some release.Reset; last = Some (call.EndLease n) }
   heard h (call.EndLease n) reply.Dispose = record h { release = Some release.Dispose; last = Some (call.EndLease n) }

@@ -64,13 +64,13 @@ pub(crate) fn call_of<E: ServerEnd>(event: &Event<E>) -> Call
 }
 
 /// The same holder, with a link of this number and second of birth, whose lease begins.
-fn with_lease(holder: Holder, number: u64, born: u64) -> Holder
-    ensures { result ≡ record holder { lease = Some (record { number = number; born = born; stage = Granted }) } }
+fn with_lease(holder: Holder, number: u64, started_at: u64) -> Holder
+    ensures { result ≡ record holder { lease = Some (record { number = number; started_at = started_at; stage = Granted }) } }
 {
     Holder {
         lease: Some(Lease {
             number,
-            born,
+            started_at,
             stage: Stage::Granted,
         }),
         ..holder
@@ -132,8 +132,15 @@ pub(crate) fn heard<E: ServerEnd>(holder: Holder, call: Call, reply: &Reply<E>) 
             ..held
         },
         (Call::Take(_), Reply::Queued(_)) => holder,
-        (Call::Take(_), Reply::Lend(link)) => with_lease(held, link.number(), link.born()),
-        (Call::Take(_), Reply::Start { number, born, .. }) => with_lease(held, *number, *born),
+        (Call::Take(_), Reply::Lend(link)) => with_lease(held, link.number(), link.started_at()),
+        (
+            Call::Take(_),
+            Reply::Start {
+                number,
+                started_at,
+                ..
+            },
+        ) => with_lease(held, *number, *started_at),
         (Call::Keyed { .. }, Reply::Done) => at_stage(held, Stage::Keyed),
         (Call::EndLease(_), Reply::Reset) => at_stage(released(held, Release::Reset), Stage::Ended),
         (Call::EndLease(_), Reply::Dispose) => released(held, Release::Dispose),

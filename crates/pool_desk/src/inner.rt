@@ -214,11 +214,11 @@ impl<S: Outside, K: Ledgers> Core<S, K> {
             Reply::Lend(link) => Grant::Lend(link),
             Reply::Start {
                 number,
-                born,
+                started_at,
                 evicted,
             } => Grant::Start {
                 number,
-                born,
+                started_at,
                 evicted,
             },
             Reply::Refuse(refusal, _back) => Grant::Refused(refusal),

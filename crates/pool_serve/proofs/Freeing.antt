@@ -79,17 +79,17 @@ pub keyed_back : (client server : KeyView) (h m k : Holder) → m ≡ keyed_leas
 keyed_back client server h m k is (inl x) = inl (freed_behind call.GiveBack h m k (subst (Holds h) (sym is) (keyed_holds client server h keying.Done)) x)
 keyed_back client server h m k is (inr x) = inr (freed_behind call.Lost h m k (subst (Holds h) (sym is) (keyed_holds client server h keying.Done)) x)
 
-pub keyed_has : (h : Holder) (link : LinkView) (word : KeyWord) (o : Option KeyView) → IsKeyed h link word o → HasLease h link.number link.born
+pub keyed_has : (h : Holder) (link : LinkView) (word : KeyWord) (o : Option KeyView) → IsKeyed h link word o → HasLease h link.number link.started_at
 keyed_has h link word None x = record { stage = Granted; lease = x; is_open = refl }
 keyed_has h link word (Some s) x = record { stage = Keyed; lease = x.lease; is_open = refl }
 
 -- ---- behind the end of a lease
 
-pub lease_is_open : (h : Holder) (number born : ℕ) → HasLease h number born → is_open h ≡ true
-lease_is_open h number born x = ap (λ (o : Option Lease). is_before_end (option_map (λ (l : Lease). l.stage) o)) x.lease ∙ x.is_open
+pub lease_is_open : (h : Holder) (number started_at : ℕ) → HasLease h number started_at → is_open h ≡ true
+lease_is_open h number started_at x = ap (λ (o : Option Lease). is_before_end (option_map (λ (l : Lease). l.stage) o)) x.lease ∙ x.is_open
 
-pub lease_ended : (h m : Holder) (number born : ℕ) → HasLease h number born → m ≡ released h Reset → m.lease ≡ Some (record { number = number; born = born; stage = Ended })
-lease_ended h m number born x e = ap (λ (y : Holder). y.lease) e ∙ ap (option_map (λ (l : Lease). record l { stage = Ended })) x.lease
+pub lease_ended : (h m : Holder) (number started_at : ℕ) → HasLease h number started_at → m ≡ released h Reset → m.lease ≡ Some (record { number = number; started_at = started_at; stage = Ended })
+lease_ended h m number started_at x e = ap (λ (y : Holder). y.lease) e ∙ ap (option_map (λ (l : Lease). record l { stage = Ended })) x.lease
 
 released_freed : (r : Release) (c : ℕ → Call) (h m k : Holder) → m ≡ released h r → k ≡ without_lease c m → IsFreed c h k
 released_freed r c h m k is e = freed_of c h m k (subst (Holds h) (sym is) (released_holds h r)) e

@@ -32,13 +32,13 @@ module _ (home : HomeOf) (client : ClientFacts) (link : LinkView) (word : KeyWor
   back_home standing (Used l) t h = that_home l t.2 h
   back_home standing (Gone lent cause) t h = tt
 
-  that_own : (h : Holder) (number born : ℕ) → number ≡ v.number → born ≡ v.born → HasLease h link.number link.born → HasLease h number born
-  that_own h number born n b y = subst (λ (m : ℕ). HasLease h m born) (sym (n ∙ x.same.1)) (subst (λ (m : ℕ). HasLease h link.number m) (sym (b ∙ x.same.2)) y)
+  that_own : (h : Holder) (number started_at : ℕ) → number ≡ v.number → started_at ≡ v.started_at → HasLease h link.number link.started_at → HasLease h number started_at
+  that_own h number started_at n b y = subst (λ (m : ℕ). HasLease h m started_at) (sym (n ∙ x.same.1)) (subst (λ (m : ℕ). HasLease h link.number m) (sym (b ∙ x.same.2)) y)
 
-  pub back_own : {E : Type 0} (standing : E → Standing) (h : Holder) (r : Returned E) → IsReturned standing v r → HasLease h link.number link.born → IsOwnLease h r
-  back_own standing h (Unused l) t y = that_own h l.number l.born t.2.number t.2.born y
-  back_own standing h (Used l) t y = that_own h l.number l.born t.2.number t.2.born y
-  back_own standing h (Gone lent cause) t y = that_own h lent.number lent.born t.0.number t.0.born y
+  pub back_own : {E : Type 0} (standing : E → Standing) (h : Holder) (r : Returned E) → IsReturned standing v r → HasLease h link.number link.started_at → IsOwnLease h r
+  back_own standing h (Unused l) t y = that_own h l.number l.started_at t.2.number t.2.started_at y
+  back_own standing h (Used l) t y = that_own h l.number l.started_at t.2.number t.2.started_at y
+  back_own standing h (Gone lent cause) t y = that_own h lent.number lent.started_at t.0.number t.0.started_at y
 
 -- ---- a new link
 

@@ -17,15 +17,15 @@ IsBackHome home (Used link) = IsAtHome home link
 IsBackHome home (Gone lent cause) = Unit {0}
 
 -- the pass has the link of this number and second of birth, whose lease hasn't ended
-pub record HasLease (h : Holder) (number born : ℕ) : Type 0 where
+pub record HasLease (h : Holder) (number started_at : ℕ) : Type 0 where
   pub stage : Stage
-  pub lease : h.lease ≡ Some (record { number = number; born = born; stage = stage })
+  pub lease : h.lease ≡ Some (record { number = number; started_at = started_at; stage = stage })
   pub is_open : is_before_end (Some stage) ≡ true
 
 abbrev pub IsOwnLease : {E : Type 0} → Holder → Returned E → Type 0
-IsOwnLease h (Unused link) = HasLease h link.number link.born
-IsOwnLease h (Used link) = HasLease h link.number link.born
-IsOwnLease h (Gone lent cause) = HasLease h lent.number lent.born
+IsOwnLease h (Unused link) = HasLease h link.number link.started_at
+IsOwnLease h (Used link) = HasLease h link.number link.started_at
+IsOwnLease h (Gone lent cause) = HasLease h lent.number lent.started_at
 
 -- its link went by this call, and nothing else of it has changed: no cancel was asked for or sent
 pub record IsFreed (call : ℕ → Call) (h k : Holder) : Type 0 where

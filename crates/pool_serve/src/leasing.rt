@@ -140,9 +140,9 @@ impl<'a, D: LinkDesk, G: Gate<D::End>> Worker<'a, D, G> {
         &mut self,
         logged_in: &LoggedIn,
         number: u64,
-        born: u64,
+        started_at: u64,
     ) -> Result<CleanLink<D::End>, Ending>
-        requires own { (D.holder self.old.pass).lease ≡ Some (record { number = number; born = born; stage = Granted }) }
+        requires own { (D.holder self.old.pass).lease ≡ Some (record { number = number; started_at = started_at; stage = Granted }) }
         requires logged_in { IsLoggedIn logged_in.now }
         ensures linked { IfOk result (λ l. IsLinked D.home logged_in.now (D.holder self.new.pass) l) }
         ensures told { IfOk result (λ l. D.told self.new.pass ≡ D.told self.old.pass) }
@@ -157,7 +157,7 @@ impl<'a, D: LinkDesk, G: Gate<D::End>> Worker<'a, D, G> {
             self.desk,
             logged_in,
             number,
-            born,
+            started_at,
             &mut self.gate,
         );
         if opened.is_err() {
@@ -207,13 +207,13 @@ impl<'a, D: LinkDesk, G: Gate<D::End>> Worker<'a, D, G> {
             Grant::Lend(link) => self.lent_link(logged_in, link),
             Grant::Start {
                 number,
-                born,
+                started_at,
                 evicted,
             } => {
                 if let Some(link) = evicted {
                     close_link(link);
                 }
-                self.new_link(logged_in, number, born)
+                self.new_link(logged_in, number, started_at)
             }
             Grant::Refused(refusal) => Err(Ending::Refused(refusal)),
             Grant::Stranger => Err(Ending::Strange),

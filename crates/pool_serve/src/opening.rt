@@ -86,14 +86,14 @@ fn start_anew<D: LinkDesk, G: Gate<D::End>>(
     desk: &D,
     logged_in: &LoggedIn,
     number: u64,
-    born: u64,
+    started_at: u64,
     seconds: u32,
     gate: &mut G,
 ) -> Result<CleanLink<D::End>, Ending>
     requires logged_in { IsLoggedIn logged_in.now }
     ensures key { IfOk result (λ l. l.key ≡ arc_value logged_in.now.key) }
     ensures number { IfOk result (λ l. l.number ≡ number) }
-    ensures born { IfOk result (λ l. l.born ≡ born) }
+    ensures started_at { IfOk result (λ l. l.started_at ≡ started_at) }
     ensures home { IfOk result (λ l. IsAtHome D.home l) }
     ensures why { IfErr result (λ e. IsUnopened D.home logged_in.now e) }
     ensures told { LetsIn D.home logged_in.now.login → IfErr result (λ e. MayEnd [] (owed D.home.catalogue logged_in.now [] []) (final_message_of e)) }
@@ -112,7 +112,16 @@ fn start_anew<D: LinkDesk, G: Gate<D::End>>(
         return Err(Ending::Unreached);
     };
     gate.watch(&mut end);
-    match start_link(alloc, end, key, &credential, number, born, gate, LINK_TURNS) {
+    match start_link(
+        alloc,
+        end,
+        key,
+        &credential,
+        number,
+        started_at,
+        gate,
+        LINK_TURNS,
+    ) {
         Ok(link) => Ok(link),
         Err(fault) => Err(Ending::Unstarted(fault.cause)),
     }
@@ -124,20 +133,20 @@ pub(crate) fn open_link<D: LinkDesk, G: Gate<D::End>>(
     desk: &D,
     logged_in: &LoggedIn,
     number: u64,
-    born: u64,
+    started_at: u64,
     gate: &mut G,
 ) -> Result<CleanLink<D::End>, Ending>
     requires logged_in { IsLoggedIn logged_in.now }
     ensures key { IfOk result (λ l. l.key ≡ arc_value logged_in.now.key) }
     ensures number { IfOk result (λ l. l.number ≡ number) }
-    ensures born { IfOk result (λ l. l.born ≡ born) }
+    ensures started_at { IfOk result (λ l. l.started_at ≡ started_at) }
     ensures home { IfOk result (λ l. IsAtHome D.home l) }
     ensures why { IfErr result (λ e. IsUnopened D.home logged_in.now e) }
     ensures told { LetsIn D.home logged_in.now.login → IfErr result (λ e. MayEnd [] (owed D.home.catalogue logged_in.now [] []) (final_message_of e)) }
 {
     let seconds = logged_in.login.settings().server_connect_timeout();
     gate.limit(time_of(seconds));
-    let opened = start_anew(alloc, desk, logged_in, number, born, seconds, gate);
+    let opened = start_anew(alloc, desk, logged_in, number, started_at, seconds, gate);
     gate.limit(None);
     opened
 }

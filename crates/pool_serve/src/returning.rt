@@ -84,7 +84,7 @@ impl<'a, D: LinkDesk, G: Gate<D::End>> Worker<'a, D, G> {
     /// Ends the lease of the client's link, over which nothing went, and gives the link back; one that a cancel is for is closed.
     pub(crate) fn give_back_unused(&mut self, logged_in: &LoggedIn, link: CleanLink<D::End>)
         requires home { IsAtHome D.home link }
-        requires own { HasLease (D.holder self.old.pass) link.number link.born }
+        requires own { HasLease (D.holder self.old.pass) link.number link.started_at }
         ensures share { Ends (D.told self.old.pass) (D.told self.new.pass) }
         ensures holder { IsBackByRelease (D.holder self.new.pass).release (D.holder self.old.pass) (D.holder self.new.pass) }
         ensures turns { G.turns self.new.gate ≡ G.turns self.old.gate }
@@ -109,7 +109,7 @@ impl<'a, D: LinkDesk, G: Gate<D::End>> Worker<'a, D, G> {
         last: &LastNote,
     )
         requires home { IsAtHome D.home link }
-        requires own { HasLease (D.holder self.old.pass) link.number link.born }
+        requires own { HasLease (D.holder self.old.pass) link.number link.started_at }
         ensures share { Ends (D.told self.old.pass) (D.told self.new.pass) }
         ensures holder { IsBackByRelease (D.holder self.new.pass).release (D.holder self.old.pass) (D.holder self.new.pass) ⊎ IsFreed Lost (D.holder self.old.pass) (D.holder self.new.pass) }
         ensures turns { WaitsBehindEnd (D.holder self.new.pass).release (G.turns self.old.gate) (G.turns self.new.gate) }

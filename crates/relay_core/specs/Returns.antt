@@ -22,7 +22,7 @@ pub record IsThatLink (v : RelayView) (l : LinkView) : Type 0 where
   pub stands : l.stands ≡ v.link
   pub key : l.key ≡ v.key
   pub number : l.number ≡ v.number
-  pub born : l.born ≡ v.born
+  pub started_at : l.started_at ≡ v.started_at
   pub server_key : l.server_key ≡ v.server_key
   pub reports : l.reports ≡ v.told.reports
 
@@ -31,7 +31,7 @@ pub record IsThatLent {E : Type 0} (standing : E → Standing) (v : RelayView) (
   pub stands : standing l.end ≡ v.link
   pub key : arc_value l.key ≡ v.key
   pub number : l.number ≡ v.number
-  pub born : l.born ≡ v.born
+  pub started_at : l.started_at ≡ v.started_at
   pub server_key : l.server_key ≡ v.server_key
   pub reports : l.reported ≡ v.told.reports
 

@@ -86,9 +86,9 @@ impl<C: ClientEnd, E: ServerEnd> Model for Relay<C, E> {
 
     ghost Value = { RelayView };
 
-    ghost view = { λ r. relay_view (C.facts r.client) (E.standing r.link.end) (arc_value r.link.key) r.link.number r.link.born r.link.server_key r.word (drop r.greeted r.welcome.items) r.to_link r.to_client (told_of r.traffic r.link.reported) r.flags r.phase };
+    ghost view = { λ r. relay_view (C.facts r.client) (E.standing r.link.end) (arc_value r.link.key) r.link.number r.link.started_at r.link.server_key r.word (drop r.greeted r.welcome.items) r.to_link r.to_client (told_of r.traffic r.link.reported) r.flags r.phase };
 
-    ghost invariant = { λ r. (r.greeted ≤ length r.welcome.items) × IsRelay (relay_view (C.facts r.client) (E.standing r.link.end) (arc_value r.link.key) r.link.number r.link.born r.link.server_key r.word (drop r.greeted r.welcome.items) r.to_link r.to_client (told_of r.traffic r.link.reported) r.flags r.phase) };
+    ghost invariant = { λ r. (r.greeted ≤ length r.welcome.items) × IsRelay (relay_view (C.facts r.client) (E.standing r.link.end) (arc_value r.link.key) r.link.number r.link.started_at r.link.server_key r.word (drop r.greeted r.welcome.items) r.to_link r.to_client (told_of r.traffic r.link.reported) r.flags r.phase) };
 }
 
 impl<C: ClientEnd, E: ServerEnd> Relay<C, E> {

@@ -31,7 +31,7 @@ empty_flow : (s : Side) (lm : ℕ) (f : FlowView) → 4 ≤ lm → lm ≤ MAX_FR
 empty_flow s lm f low high x = record { side_is = x.side_is; low = rw x.limit_is low; high = rw x.limit_is high; ended = rw x.ends tt }
 
 abbrev link_of : Standing → StartKeyOf → ℕ → ℕ → Option KeyView → List Kept → LinkView
-link_of l k n b sk ks = record { stands = l; key = k; number = n; born = b; server_key = sk; reports = ks }
+link_of l k n b sk ks = record { stands = l; key = k; number = n; started_at = b; server_key = sk; reports = ks }
 
 same_session : (r : Result State Cause) (s t : State) → r ≡ Ok s → r ≡ Ok t → s ≡ t
 same_session r s t e d = cc
@@ -89,12 +89,12 @@ lease_begun cf l k n b sk w tl tc t ph lm c low high x y z = record {
   };
 }
 
-link_is : (lk : LinkView) (l : Standing) (k : StartKeyOf) (n b : ℕ) (sk : Option KeyView) (ks : List Kept) → l ≡ lk.stands → k ≡ lk.key → n ≡ lk.number → b ≡ lk.born → sk ≡ lk.server_key → ks ≡ lk.reports → link_of l k n b sk ks ≡ lk
+link_is : (lk : LinkView) (l : Standing) (k : StartKeyOf) (n b : ℕ) (sk : Option KeyView) (ks : List Kept) → l ≡ lk.stands → k ≡ lk.key → n ≡ lk.number → b ≡ lk.started_at → sk ≡ lk.server_key → ks ≡ lk.reports → link_of l k n b sk ks ≡ lk
 link_is lk l k n b sk ks e d f g s r = rw (e, d, f, g, s, r) refl
 
 -- A lease of this link begins, whose client is to be given what its reports tell.
 pub lease_begun_at : (lk : LinkView) (cf : ClientFacts) (l : Standing) (k : StartKeyOf) (n b : ℕ) (sk : Option KeyView) (w : KeyWord) (gr : List ℕ) (tl tc : FlowView) (t : Told) (ph : Phase) (lm : ℕ)
-    → l ≡ lk.stands → k ≡ lk.key → n ≡ lk.number → b ≡ lk.born → sk ≡ lk.server_key → t.reports ≡ lk.reports → gr ≡ greeting_of lk.reports w
+    → l ≡ lk.stands → k ≡ lk.key → n ≡ lk.number → b ≡ lk.started_at → sk ≡ lk.server_key → t.reports ≡ lk.reports → gr ≡ greeting_of lk.reports w
     → IsClean l k sk t.reports → 4 ≤ lm → lm ≤ MAX_FRAME → IsEmptyFlow Client lm tl → IsEmptyFlow Server lm tc → Tells t.tally [] []
     → IsLease (place cf lk w lm) (relay_view cf l k n b sk w gr tl tc t (flags_of false false false false) ph)
 lease_begun_at lk cf l k n b sk w gr tl tc t ph lm e d f h s r g c low high x y z =

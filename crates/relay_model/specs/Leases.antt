@@ -31,7 +31,7 @@ pub record RelayView : Type 0 where
   pub link : Standing
   pub key : StartKeyOf
   pub number : ℕ
-  pub born : ℕ
+  pub started_at : ℕ
   pub server_key : Option KeyView
   pub word : KeyWord
   -- what the client is still to be given of its welcome
@@ -43,12 +43,12 @@ pub record RelayView : Type 0 where
   pub phase : Phase
 
 abbrev pub relay_view : ClientFacts → Standing → StartKeyOf → ℕ → ℕ → Option KeyView → KeyWord → List ℕ → FlowView → FlowView → Told → Flags → Phase → RelayView
-relay_view client link key number born server_key word greeting to_link to_client told flags phase = record {
+relay_view client link key number started_at server_key word greeting to_link to_client told flags phase = record {
   client = client;
   link = link;
   key = key;
   number = number;
-  born = born;
+  started_at = started_at;
   server_key = server_key;
   word = word;
   greeting = greeting;
@@ -106,7 +106,7 @@ pub record Place : Type 0 where
   pub reports : List Kept
   pub key : StartKeyOf
   pub number : ℕ
-  pub born : ℕ
+  pub started_at : ℕ
   pub server_key : Option KeyView
   pub word : KeyWord
   pub limit : ℕ
@@ -117,7 +117,7 @@ abbrev pub greeting_of : List Kept → KeyWord → List ℕ
 greeting_of reports word = flat_map spelling (welcome_by reports word.pid word.secret)
 
 abbrev pub place : ClientFacts → LinkView → KeyWord → ℕ → Place
-place client link word limit = record { told = client.tells; taken = client.taken; given = client.given; faults = client.faults; stands = link.stands; reports = link.reports; key = link.key; number = link.number; born = link.born; server_key = link.server_key; word = word; limit = limit; greeting = greeting_of link.reports word }
+place client link word limit = record { told = client.tells; taken = client.taken; given = client.given; faults = client.faults; stands = link.stands; reports = link.reports; key = link.key; number = link.number; started_at = link.started_at; server_key = link.server_key; word = word; limit = limit; greeting = greeting_of link.reports word }
 
 -- the welcome of the link's fresh session, with the client's own key word
 abbrev pub IsGreeting : Standing → StartKeyOf → KeyWord → List ℕ → Type 0
@@ -144,7 +144,7 @@ pub record IsFlow (side : Side) (f : FlowView) : Type 0 where
 
 -- it is the same link, key word and limit still
 abbrev pub IsSame : Place → RelayView → Type 0
-IsSame p v = (v.key ≡ p.key) × (v.number ≡ p.number) × (v.born ≡ p.born) × (v.word ≡ p.word) × (v.to_link.limit ≡ p.limit) × (v.to_client.limit ≡ p.limit) × (v.server_key ≡ p.server_key)
+IsSame p v = (v.key ≡ p.key) × (v.number ≡ p.number) × (v.started_at ≡ p.started_at) × (v.word ≡ p.word) × (v.to_link.limit ≡ p.limit) × (v.to_client.limit ≡ p.limit) × (v.server_key ≡ p.server_key)
 
 -- From the client to the link, since that place: these frames went on, and the beginning (tail) of one more. What was
 -- sent over the link and what is held for it are these; what was taken from the client are these and the part behind them.

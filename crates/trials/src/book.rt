@@ -146,9 +146,9 @@ impl Bench {
     }
 
     /// A link of this number is started for the client.
-    fn starts(&mut self, client: Client, number: u64, born: u64) -> Result<(), AllocError> {
+    fn starts(&mut self, client: Client, number: u64, started_at: u64) -> Result<(), AllocError> {
         let key = self.key_of(client.pool)?;
-        let link = gone_link(self.alloc, key, number, born)?;
+        let link = gone_link(self.alloc, key, number, started_at)?;
         self.has(client, link)
     }
 
@@ -162,7 +162,11 @@ impl Bench {
         };
         match self.happens(take) {
             Reply::Lend(link) => self.has(client, link),
-            Reply::Start { number, born, .. } => self.starts(client, number, born),
+            Reply::Start {
+                number,
+                started_at,
+                ..
+            } => self.starts(client, number, started_at),
             _ => Ok(()),
         }
     }

@@ -15,14 +15,14 @@ pub(crate) fn gone_link(
     alloc: Global,
     key: Arc<StartKey>,
     number: u64,
-    born: u64,
+    started_at: u64,
 ) -> Result<CleanLink<GoneEnd>, AllocError> {
     unfollowed_starts_are_clean();
     let parts = LinkParts {
         end: GoneEnd::of(&key)?,
         key,
         number,
-        born,
+        started_at,
         server_key: None,
         reported: Reported::new(alloc),
     };
@@ -43,7 +43,7 @@ pub(crate) fn row_link(
         end: RowServer::new(alloc, &key, size, total)?,
         key,
         number: 1,
-        born: 0,
+        started_at: 0,
         server_key: None,
         reported: Reported::new(alloc),
     };

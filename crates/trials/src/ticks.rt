@@ -59,10 +59,15 @@ impl Bench {
         let key = key(self.alloc, &row.to_be_bytes(), own, 0)?;
         let of_link = Arc::try_clone(&key)?;
         drop(self.happens(Event::Ask { client, key }));
-        let Reply::Start { number, born, .. } = self.happens(Event::Take { client }) else {
+        let Reply::Start {
+            number,
+            started_at,
+            ..
+        } = self.happens(Event::Take { client })
+        else {
             return Err(AllocError);
         };
-        let link = gone_link(self.alloc, of_link, number, born)?;
+        let link = gone_link(self.alloc, of_link, number, started_at)?;
         drop(self.book.apply(0, GiveBack(link)));
         drop(self.happens(Event::Leave { client }));
         Ok(())

@@ -104,33 +104,33 @@ book_keeps k w _ (is_lent c m l key s b h q f) r =
       facts = step_is_lent k.lends w c m l key s r.facts h.phase h.number_is q.reply_is f;
       cancels = lent_anew w (apply w.book (Take m)).book c m l key s r.cancels h.phase i.0 n i.1 (nobody_starts l Idle r.facts i.0 idle_promised);
     })
-book_keeps k w _ (is_promised c m l born key b h q) r =
+book_keeps k w _ (is_promised c m l started_at key b h q) r =
     with_its (promised w c l key) q
     (record {
-      facts = step_is_promised k.starts w c m l born key r.facts h.phase h.number_is q.reply_is;
-      cancels = promise_cancels w (apply w.book (Take m)).book c m l key r h.phase h.number_is (k.starts w.book m l born q.reply_is);
+      facts = step_is_promised k.starts w c m l started_at key r.facts h.phase h.number_is q.reply_is;
+      cancels = promise_cancels w (apply w.book (Take m)).book c m l key r h.phase h.number_is (k.starts w.book m l started_at q.reply_is);
     })
-book_keeps k w _ (is_promised_for c m l born old key b h q) r =
-    let n = k.evicts w.book m l born old q.reply_is in
+book_keeps k w _ (is_promised_for c m l started_at old key b h q) r =
+    let n = k.evicts w.book m l started_at old q.reply_is in
     let new = (apply w.book (Take m)).book in
     let middle = evicting w.book new in
     let first : Related (with_book (gone w old) middle) = record { facts = step_evicts w new m l old r.facts n.0 n.1; cancels = event_keeps (gone w old) middle (evicts_only w.book new) (thrown w old r.cancels) } in
     with_its (promised (gone w old) c l key) q
     (record {
-      facts = step_is_promised_for k.evicts w c m l born old key r.facts h.phase h.number_is q.reply_is;
+      facts = step_is_promised_for k.evicts w c m l started_at old key r.facts h.phase h.number_is q.reply_is;
       cancels = promise_cancels (with_book (gone w old) middle) new c m l key first h.phase h.number_is (starts_on n.0);
     })
-book_keeps k w _ (gives_back l born b e q) r =
+book_keeps k w _ (gives_back l started_at b e q) r =
     with_its (with_link w l (in_role (w.links l) Idle)) q
     (record {
-      facts = step_gives_back k.gives_back w l born r.facts e q.reply_is;
-      cancels = given_back w (apply_return w.book l (w.links l).key born).book l (w.links l).key r.cancels e (k.gives_back w.book l (w.links l).key born q.reply_is);
+      facts = step_gives_back k.gives_back w l started_at r.facts e q.reply_is;
+      cancels = given_back w (apply_return w.book l (w.links l).key started_at).book l (w.links l).key r.cancels e (k.gives_back w.book l (w.links l).key started_at q.reply_is);
     })
-book_keeps k w _ (gives_back_too_late l n born b e q) r =
+book_keeps k w _ (gives_back_too_late l n started_at b e q) r =
     with_its (gone w l) q
     (record {
-      facts = step_gives_back_too_late k.too_late w l n born r.facts e q.reply_is;
-      cancels = event_keeps (gone w l) (apply_return w.book l (w.links l).key born).book (k.too_late w.book l n (w.links l).key born q.reply_is).lends_nothing (thrown w l r.cancels);
+      facts = step_gives_back_too_late k.too_late w l n started_at r.facts e q.reply_is;
+      cancels = event_keeps (gone w l) (apply_return w.book l (w.links l).key started_at).book (k.too_late w.book l n (w.links l).key started_at q.reply_is).lends_nothing (thrown w l r.cancels);
     })
 book_keeps k w _ (tick_closes now l b q) r =
     with_its (gone w l) q

@@ -245,9 +245,9 @@ promise w b c m l key r e k =
     before : (n : ℕ) → b.next_link ≤ n → w.book.next_link ≤ n
     before n le = let d = k.next_link in omega arith
 
-pub step_is_promised : TakesStart → (w : World) (c m l born : ℕ) (key : StartKeyOf) → AreRelated w → (w.clients c).phase ≡ Waiting key → (w.clients c).number ≡ Some m → (apply w.book (Take m)).reply ≡ Start l born None →
+pub step_is_promised : TakesStart → (w : World) (c m l started_at : ℕ) (key : StartKeyOf) → AreRelated w → (w.clients c).phase ≡ Waiting key → (w.clients c).number ≡ Some m → (apply w.book (Take m)).reply ≡ Start l started_at None →
     AreRelated (with_book (promised w c l key) (apply w.book (Take m)).book)
-step_is_promised begins w c m l born key r e num reply = promise w (apply w.book (Take m)).book c m l key r e (begins w.book m l born reply)
+step_is_promised begins w c m l started_at key r e num reply = promise w (apply w.book (Take m)).book c m l key r e (begins w.book m l started_at reply)
 
 -- an idle link that the book dropped is closed
 drops_idle : (w : World) (b : Book) (l : ℕ) → AreRelated w → AddsNothing w.book b → (n : ℕ) → b.next_link ≡ n → ((m : ℕ) → n ≤ m → w.book.next_link ≤ m) → Drops w.book l b →
@@ -303,17 +303,17 @@ starts_on k = record {
   };
 }
 
-pub step_is_promised_for : TakesEvict → (w : World) (c m l born old : ℕ) (key : StartKeyOf) → AreRelated w → (w.clients c).phase ≡ Waiting key → (w.clients c).number ≡ Some m → (apply w.book (Take m)).reply ≡ Start l born (Some old) →
+pub step_is_promised_for : TakesEvict → (w : World) (c m l started_at old : ℕ) (key : StartKeyOf) → AreRelated w → (w.clients c).phase ≡ Waiting key → (w.clients c).number ≡ Some m → (apply w.book (Take m)).reply ≡ Start l started_at (Some old) →
     AreRelated (with_book (promised (gone w old) c l key) (apply w.book (Take m)).book)
-step_is_promised_for evicts w c m l born old key r e num reply =
-    let k = evicts w.book m l born old reply in
+step_is_promised_for evicts w c m l started_at old key r e num reply =
+    let k = evicts w.book m l started_at old reply in
     let new = (apply w.book (Take m)).book in
     promise (with_book (gone w old) (evicting w.book new)) new c m l key (step_evicts w new m l old r k.0 k.1) e (starts_on k.0)
 
-pub step_gives_back : ReturnsAdd → (w : World) (l born : ℕ) → AreRelated w → (w.links l).role ≡ Clean → (apply_return w.book l (w.links l).key born).reply ≡ Done →
-    AreRelated (with_book (with_link w l (in_role (w.links l) Idle)) (apply_return w.book l (w.links l).key born).book)
-step_gives_back adds w l born r e reply =
-    let k = adds w.book l (w.links l).key born reply in
+pub step_gives_back : ReturnsAdd → (w : World) (l started_at : ℕ) → AreRelated w → (w.links l).role ≡ Clean → (apply_return w.book l (w.links l).key started_at).reply ≡ Done →
+    AreRelated (with_book (with_link w l (in_role (w.links l) Idle)) (apply_return w.book l (w.links l).key started_at).book)
+step_gives_back adds w l started_at r e reply =
+    let k = adds w.book l (w.links l).key started_at reply in
     let clean = role_at l Clean r e in
     let y = in_role (w.links l) Idle in
     let s = change_link w l y r (record { is_fresh = clean.is_fresh; lawful_key = clean.lawful_key; inbox = clean.inbox; outbox = clean.outbox; sent = clean.sent; received = clean.received; undue = clean.undue; struck = clean.struck })
@@ -331,11 +331,11 @@ step_gives_back adds w l born r e reply =
       tickets_counted = λ n q h. subst (λ (i : ℕ). n < i) (sym k.next_client) (s.tickets_counted n q (k.tickets n q h));
     }
 
-pub step_gives_back_too_late : ReturnsClose → (w : World) (l n born : ℕ) → AreRelated w → (w.links l).role ≡ Clean → (apply_return w.book l (w.links l).key born).reply ≡ Close n →
-    AreRelated (with_book (gone w l) (apply_return w.book l (w.links l).key born).book)
-step_gives_back_too_late closes w l n born r e reply =
-    let k = closes w.book l n (w.links l).key born reply in
-    step_keeps (gone w l) (apply_return w.book l (w.links l).key born).book
+pub step_gives_back_too_late : ReturnsClose → (w : World) (l n started_at : ℕ) → AreRelated w → (w.links l).role ≡ Clean → (apply_return w.book l (w.links l).key started_at).reply ≡ Close n →
+    AreRelated (with_book (gone w l) (apply_return w.book l (w.links l).key started_at).book)
+step_gives_back_too_late closes w l n started_at r e reply =
+    let k = closes w.book l n (w.links l).key started_at reply in
+    step_keeps (gone w l) (apply_return w.book l (w.links l).key started_at).book
     (change_link w l (in_role (w.links l) Gone) r tt (λ d _ f. clean_lent d (sym e ∙ f.1)) (λ d _ _ f. clean_promised d (sym e ∙ f)) (λ f. clean_idle (sym e ∙ f)) (λ f. clean_unborn (sym e ∙ f)))
     k.adds_nothing k.next_link
 

@@ -83,7 +83,7 @@ unfolding SameNumber
 tickets_put clients c x n own same step h d =
     put_case (λ z. z.number ≡ Some n → TicketFits own z.phase) clients c x d (λ _ m. step own (h c (same n m))) (λ _ m. h d m)
 
--- a link that keeps its role and key, or is neither idle before nor born later
+-- a link that keeps its role and key, or is neither idle before nor started later
 pub idle_put : (links : ℕ → Link) (l : ℕ) (y : Link) (n : ℕ) (key : StartKeyOf) → ((links l).role ≡ Idle → (y.role ≡ Idle) × (y.key ≡ (links l).key)) →
     ((links n).role ≡ Idle) × ((links n).key ≡ key) → ((put links l y n).role ≡ Idle) × ((put links l y n).key ≡ key)
 idle_put links l y n key step h =

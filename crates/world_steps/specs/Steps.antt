@@ -92,17 +92,17 @@ pub data BookStep (w : World) : World → Type 0 where
   is_lent : (c n l : ℕ) (key : StartKeyOf) (s : State) (b : Book) →
       Waits (w.clients c) key n → Gives (apply w.book (Take n)) (Lend l) b → fresh (w.catalogue (address_of key)) key ≡ Ok s →
       BookStep w (with_book (with_pair w c (gets_link (w.clients c) l s) l (record (w.links l) { role = Lent c })) b)
-  is_promised : (c n l born : ℕ) (key : StartKeyOf) (b : Book) →
-      Waits (w.clients c) key n → Gives (apply w.book (Take n)) (Start l born None) b →
+  is_promised : (c n l started_at : ℕ) (key : StartKeyOf) (b : Book) →
+      Waits (w.clients c) key n → Gives (apply w.book (Take n)) (Start l started_at None) b →
       BookStep w (with_book (promised w c l key) b)
-  is_promised_for : (c n l born old : ℕ) (key : StartKeyOf) (b : Book) →
-      Waits (w.clients c) key n → Gives (apply w.book (Take n)) (Start l born (Some old)) b →
+  is_promised_for : (c n l started_at old : ℕ) (key : StartKeyOf) (b : Book) →
+      Waits (w.clients c) key n → Gives (apply w.book (Take n)) (Start l started_at (Some old)) b →
       BookStep w (with_book (promised (gone w old) c l key) b)
-  gives_back : (l born : ℕ) (b : Book) →
-      (w.links l).role ≡ Clean → Gives (apply_return w.book l (w.links l).key born) Done b →
+  gives_back : (l started_at : ℕ) (b : Book) →
+      (w.links l).role ≡ Clean → Gives (apply_return w.book l (w.links l).key started_at) Done b →
       BookStep w (with_book (with_link w l (record (w.links l) { role = Idle })) b)
-  gives_back_too_late : (l closed born : ℕ) (b : Book) →
-      (w.links l).role ≡ Clean → Gives (apply_return w.book l (w.links l).key born) (Close closed) b →
+  gives_back_too_late : (l closed started_at : ℕ) (b : Book) →
+      (w.links l).role ≡ Clean → Gives (apply_return w.book l (w.links l).key started_at) (Close closed) b →
       BookStep w (with_book (gone w l) b)
   tick_closes : (now l : ℕ) (b : Book) → Gives (apply w.book (Tick now)) (Close l) b → BookStep w (with_book (gone w l) b)
   -- whatever it is that was seen of the link: nothing is asked of its server

@@ -60,10 +60,10 @@ module _ {n : ℕ} where
   book_told w _ (arrives c m read beyond b e none q) h = h
   book_told w _ (asks c m key r b e q) h = h
   book_told w _ (is_lent c m l key s b e q f) h = same_told w.links l _ refl h
-  book_told w _ (is_promised c m l born key b e q) h = same_told w.links l _ refl h
-  book_told w _ (is_promised_for c m l born old key b e q) h = same_told (put w.links old (record (w.links old) { role = Gone })) l _ refl (same_told w.links old _ refl h)
-  book_told w _ (gives_back l born b e q) h = same_told w.links l _ refl h
-  book_told w _ (gives_back_too_late l m born b e q) h = same_told w.links l _ refl h
+  book_told w _ (is_promised c m l started_at key b e q) h = same_told w.links l _ refl h
+  book_told w _ (is_promised_for c m l started_at old key b e q) h = same_told (put w.links old (record (w.links old) { role = Gone })) l _ refl (same_told w.links old _ refl h)
+  book_told w _ (gives_back l started_at b e q) h = same_told w.links l _ refl h
+  book_told w _ (gives_back_too_late l m started_at b e q) h = same_told w.links l _ refl h
   book_told w _ (tick_closes now l b q) h = same_told w.links l _ refl h
   book_told w _ (hung_up_closes m l b q) h = same_told w.links l _ refl h
   book_told w _ (keys c l own b e told q) h = h

@@ -91,7 +91,7 @@ abbrev pub limits : Limits
 limits = record { max_clients = 9; max_links = 9; rows = rows 9; default_size = 9; wait_timeout = 0; lifetime = 3600; idle_timeout = 600 }
 
 -- the only link that the book lends is at the place of the database row
-pub lent_alone : {b : Book} → b.lent ≡ record { number = 1; key = key; born = 0; since = 0 } ∷ [] → IsPlaceOf b 1 db.host db.port
+pub lent_alone : {b : Book} → b.lent ≡ record { number = 1; key = key; started_at = 0; since = 0 } ∷ [] → IsPlaceOf b 1 db.host db.port
 lent_alone e = record { key = key; is_lent = subst (HasLink 1 key) (sym e) (inl (refl, refl)); host_is = refl; port_is = refl }
 
 abbrev pub hello : List ℕ

@@ -9,7 +9,7 @@ invariant-loop-left g l = record {
   under_way : IsStartUnderWay (g.E.ServerEnd.standing l.fn.end) l.credential l.start;
   key : l.start.key ≡ arc_value l.fn.key;
   number : l.start.number ≡ l.fn.number;
-  born : l.start.born ≡ l.fn.born;
+  started_at : l.start.started_at ≡ l.fn.started_at;
   short : length l.start.received ≤ MAX_WELCOME;
   fewer : l.left ≤ l.fn.turns;
   tried : l.fn.turns + waits_of (g.E.ServerEnd.standing l.fn.end) ≤ waits_of l.start.end + l.left;

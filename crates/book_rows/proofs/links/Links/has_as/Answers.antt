@@ -10,4 +10,4 @@ get-requires c = let P : List Link → Type 0 = λ rows. (n : ℕ) → count_by 
 pub returns-in-Some : goal.returns-in-Some
 returns-in-Some c =
     let there : Some c.in-Some.link.now ≡ find (is_link c.args.number) c.args.self.now = ap option_copied (sym c.in-Some.is) ∙ (c.get.ensures ∙ ap (find (is_link c.args.number)) c.self.view_is) in
-    c.was_started_as.ensures ∙ ap (is_started_as c.args.key.now c.args.born) there
+    c.was_started_as.ensures ∙ ap (is_started_as c.args.key.now c.args.started_at) there

@@ -52,7 +52,7 @@ returns-clause-left g c =
     let view = c.self-2.view_is in
     let put = put_so c.in_ok-put_answer.field-0 _ _ _ c.if-not-branch.false c.in_ok-put_answer.ensures in
     let before : StartView =
-    start_view (g.E.ServerEnd.standing c.self-2.inside.end) (arc_value c.self-2.inside.key) c.self-2.inside.number c.self-2.inside.born c.self-2.inside.answered (drop c.self-2.inside.sent c.self-2.inside.messages.items) c.self-2.inside.reply.items in
+    start_view (g.E.ServerEnd.standing c.self-2.inside.end) (arc_value c.self-2.inside.key) c.self-2.inside.number c.self-2.inside.started_at c.self-2.inside.answered (drop c.self-2.inside.sent c.self-2.inside.messages.items) c.self-2.inside.reply.items in
     let less = left_answered before (drop c.self-2.inside.sent c.put_answer.new.out.items) put.0 (ap (drop c.self-2.inside.sent) put.2 ∙ drop-append-le c.self-2.inside.sent c.self-2.inside.messages.items _ c.self-2.invariant) put.3
     (omega (arith, ap (λ (v : StartView). v.answered) view, c.in_ok-answer_before.ensures.one, wanted_most c.args.question)) in
     omega (arith, less, ap bytes_left view, c.in_ok-answer_before.ensures.left)
