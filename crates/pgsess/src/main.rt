@@ -14,7 +14,7 @@ use ini_config::Settings;
 use pool_app::fault::{self, AppError};
 use pool_app::files::{self, Inputs};
 use pool_app::line::{self, Job};
-use pool_run::keeping::{Source, ReloadError};
+use pool_run::keeping::{ReloadError, Source};
 use pool_run::listening::Listening;
 use pool_run::pool::serve_on;
 use pool_run::runtime::PoolRuntime;

@@ -6,7 +6,7 @@ use crate::pairs::{HERE, listen_for_clients};
 use ini_config::laws::read_settings_are_within_bounds;
 use ini_config::{Settings, read_settings};
 use log_lines::events::Totals;
-use pool_run::keeping::{Source, ReloadError};
+use pool_run::keeping::{ReloadError, Source};
 use pool_run::listening::Listening;
 use pool_run::pool::serve_on;
 use session_catalogue::Catalogue;

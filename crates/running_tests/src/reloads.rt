@@ -4,7 +4,7 @@ use crate::pools::{Elsewhere, settings, users};
 use ini_config::Settings;
 use link_desk::answers::Changed;
 use log_writer::log::{LogThread, begin};
-use pool_run::keeping::{Keeper, Source, ReloadError};
+use pool_run::keeping::{Keeper, ReloadError, Source};
 use pool_run::log::PoolLog;
 use std::alloc::Global;
 use std::rt::Clock;
