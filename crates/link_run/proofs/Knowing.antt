@@ -13,7 +13,7 @@ use Rattle.session_values.specs.declared.parameter.Parameter.{Parameter}
 use Rattle.session_values.specs.Parameters.{reported_parameters, name}
 use Rattle.session_run_laws.specs.Laws.{IsReport, IsReportIf, with_report, reported_by, after_reply}
 use Rattle.session_run_laws.proofs.SessionsByName.{reports_are_read}
-use Rattle.param_track.specs.Kept.{Kept, has_name, is_at_start, is_one_other, kept_of}
+use Rattle.param_track.specs.KeptReports.{KeptReport, has_name, is_at_start, is_one_other, kept_of}
 use Rattle.link_run.specs.Links.{reports_with, kept_by}
 use Rattle.link_run.specs.Dialogues.{names_kept, is_known, are_known}
 use Rattle.link_run.proofs.Reporting.{told-frame}
@@ -70,5 +70,5 @@ kept_length now f = by (f.kind == PARAMETER_STATUS) (status_of f.body)
 pub known_frames : (start now : List Text) (fs : List FrameOf) → length start ≡ 9 → length now ≡ 9 → AllByRecursion IsReportIf fs → are_known (kept_by start now) fs ≡ true
 known_frames start now [] e d h = refl
 known_frames start now (f ∷ fs) e d h =
-    ap₂ (λ (b : Bool) (ks : List Kept). b && are_known ks fs) (known_frame start now f e d h.0) (told-frame start now f)
+    ap₂ (λ (b : Bool) (ks : List KeptReport). b && are_known ks fs) (known_frame start now f e d h.0) (told-frame start now f)
     ∙ known_frames start (after_reply now f) fs e (kept_length now f ∙ d) h.1

@@ -12,7 +12,7 @@ use Rattle.session_values.specs.declared.parameter.Parameter.{Parameter}
 use Rattle.session_values.specs.Parameters.{reported_parameters, name}
 use Rattle.session_values.specs.State.{all_reports_from}
 use Rattle.session_run_laws.specs.Laws.{with_report, reported_by, after_reply, after_replies}
-use Rattle.param_track.specs.Kept.{Kept, first_told, told, kept_of, with_told}
+use Rattle.param_track.specs.KeptReports.{KeptReport, first_told, told, kept_of, with_told}
 use Rattle.link_run.specs.Links.{reports_with, kept_by, told_by, after_frame, after_frames, start_report, WelcomesAreTheSessions}
 
 with-one : (ps : List Parameter) (start now : List Text) (n v : Text) → with_told (kept_of (reports_with ps start) now) (n, v) ≡ kept_of (reports_with ps start) (with_report ps now n v)
@@ -24,7 +24,7 @@ with-one (p ∷ ps) (o ∷ start) (w ∷ now) n v = by (bytes_eq (name p) n) (wi
     by : (b : Bool) → with_told (kept_of (reports_with ps start) now) (n, v) ≡ kept_of (reports_with ps start) (with_report ps now n v)
         → (if b then told (first_told (name p, o)) v ∷ kept_of (reports_with ps start) now else told (first_told (name p, o)) w ∷ with_told (kept_of (reports_with ps start) now) (n, v)) ≡ kept_of (reports_with (p ∷ ps) (o ∷ start)) (if b then v ∷ now else w ∷ with_report ps now n v)
     by true e = refl
-    by false e = ap (λ (ks : List Kept). told (first_told (name p, o)) w ∷ ks) e
+    by false e = ap (λ (ks : List KeptReport). told (first_told (name p, o)) w ∷ ks) e
 
 told-read : (start now : List Text) (r : Result (Text × Text) ViewError) → told_by (kept_by start now) r ≡ kept_by start (reported_by now r)
 told-read start now (Ok (n, v)) = with-one reported_parameters start now n v
@@ -39,7 +39,7 @@ told-frame start now f = by (f.kind == PARAMETER_STATUS)
 
 pub told-frames : (start now : List Text) (fs : List FrameOf) → after_frames (kept_by start now) fs ≡ kept_by start (after_replies now fs)
 told-frames start now [] = refl
-told-frames start now (f ∷ fs) = ap (λ (ks : List Kept). after_frames ks fs) (told-frame start now f) ∙ told-frames start (after_reply now f) fs
+told-frames start now (f ∷ fs) = ap (λ (ks : List KeptReport). after_frames ks fs) (told-frame start now f) ∙ told-frames start (after_reply now f) fs
 
 -- ---- the welcome
 

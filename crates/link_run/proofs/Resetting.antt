@@ -17,7 +17,7 @@ use Rattle.session_run_laws.specs.Laws.{IsSent, IsAtRest, HasKey, IsReportIf, Re
 use Rattle.session_run_laws.proofs.SessionsByName.{discard_all_gives_fresh, struck_discard_all_is_refused, reached_has_key, statuses_are_reports, welcome_is_read}
 use Rattle.session_run_laws.specs.Settling.{IsQuiet}
 use Rattle.session_run_laws.proofs.ByName.{run_replies_are_frames, run_reports_tell_values, settled_is_quiet}
-use Rattle.param_track.specs.Kept.{Kept, is_at_start}
+use Rattle.param_track.specs.KeptReports.{KeptReport, is_at_start}
 use Rattle.server_end.specs.Stages.{Server as TheServer, Stage, Open, Packet, packets_bytes, packets_marks, MayTakeAll, answers, after}
 use Rattle.server_end.specs.Standing.{Standing, Served, Passed, Moves, marks_since}
 use Rattle.server_end.specs.Links.{IsIdle, IsFresh, IsResting}
@@ -42,10 +42,10 @@ use Rattle.link_run.proofs.Reporting.{told-frames}
 
 -- ---- moves
 
-pub reset_begun : (l : Standing) (k : StartKeyOf) (n b : ℕ) (sk : Option KeyView) (ks : List Kept) (r : List ℕ) → r ≡ [] → IsUsed l k sk ks → IsResetFrom l (reset_view l k n b sk ks (spelling discard_all) r)
+pub reset_begun : (l : Standing) (k : StartKeyOf) (n b : ℕ) (sk : Option KeyView) (ks : List KeptReport) (r : List ℕ) → r ≡ [] → IsUsed l k sk ks → IsResetFrom l (reset_view l k n b sk ks (spelling discard_all) r)
 reset_begun l k n b sk ks r e u = record { sent = []; used = u; moves = rw e (moves_none l); all = refl; faults = omega arith }
 
-pub reset_sent : (start l m : Standing) (k : StartKeyOf) (n b : ℕ) (sk : Option KeyView) (ks : List Kept) (put u w r : List ℕ) → Moves l put m [] → l.faults ≤ m.faults → u ≡ put ++ w
+pub reset_sent : (start l m : Standing) (k : StartKeyOf) (n b : ℕ) (sk : Option KeyView) (ks : List KeptReport) (put u w r : List ℕ) → Moves l put m [] → l.faults ≤ m.faults → u ≡ put ++ w
     → IsResetFrom start (reset_view l k n b sk ks u r) → IsResetFrom start (reset_view m k n b sk ks w r)
 reset_sent start l m k n b sk ks put u w r y f e x = record {
   sent = x.sent ++ put;
@@ -55,7 +55,7 @@ reset_sent start l m k n b sk ks put u w r y f e x = record {
   faults = (let a = x.faults in omega (arith, a, f));
 }
 
-pub reset_got : (start l m : Standing) (k : StartKeyOf) (n b : ℕ) (sk : Option KeyView) (ks : List Kept) (got u r s : List ℕ) → Moves l [] m got → l.faults ≤ m.faults → s ≡ r ++ got
+pub reset_got : (start l m : Standing) (k : StartKeyOf) (n b : ℕ) (sk : Option KeyView) (ks : List KeptReport) (got u r s : List ℕ) → Moves l [] m got → l.faults ≤ m.faults → s ≡ r ++ got
     → IsResetFrom start (reset_view l k n b sk ks u r) → IsResetFrom start (reset_view m k n b sk ks u s)
 reset_got start l m k n b sk ks got u r s y f e x = record {
   sent = x.sent;
@@ -80,7 +80,7 @@ read_on old new Ended into r s size i b e d o = absurd (true≢false o)
 read_on old new Fault into r s size i b e d o = absurd (true≢false o)
 
 -- a move's fault is the reset's
-pub fails_by : (kept : List Kept) (start old now : Standing) (turns : ℕ) (cause : ResetError) → start.faults ≤ old.faults → MoveFailsBy old now cause → FailsBy kept start now turns cause
+pub fails_by : (kept : List KeptReport) (start old now : Standing) (turns : ℕ) (cause : ResetError) → start.faults ≤ old.faults → MoveFailsBy old now cause → FailsBy kept start now turns cause
 fails_by kept start old now turns Lost l f = ⊎_elim (λ d. inl d) (λ n. inr (omega (arith, l, n))) f
 fails_by kept start old now turns Unexpected l f = absurd f
 fails_by kept start old now turns Changed l f = absurd f
@@ -279,7 +279,7 @@ module _ (start : Standing) (v : ResetView) (x : IsResetFrom start v) (d : IsAns
       let h = fresh_of v.key start rested.stands in
       let y = x.moves.passed began (lived start v x d) in
       let o : rested.origin ≡ h.origin = same_origin start.server.catalogue v.key rested.origin h.origin rested.is_fresh h.is_fresh in
-      ap (λ (ks : List Kept). after_frames ks got) rested.kept
+      ap (λ (ks : List KeptReport). after_frames ks got) rested.kept
       ∙ told-frames rested.origin.reported rested.stands.session.reported got
       ∙ ap₂ (λ (t : State) (values : List Text). kept_by t.reported values) o (by_passing y).reported
 
@@ -294,7 +294,7 @@ module _ (start : Standing) (v : ResetView) (x : IsResetFrom start v) (d : IsAns
       let s : State = rested.stands.session in
       let l = reached_lawful cat v.key s rested.stands.reached in
       let y = by_passing (x.moves.passed began (lived start v x d)) in (
-        ap (λ (ks : List Kept). are_known ks got) rested.kept
+        ap (λ (ks : List KeptReport). are_known ks got) rested.kept
             ∙ known_frames rested.origin.reported s.reported got (welcome_is_read cat v.key rested.origin 0 0 (begins l.0 l.1 rested.is_fresh)).nine (welcome_is_read cat v.key s 0 0 rested.stands.reached).nine y.statuses,
         ap is_at_start kept_now ∙ at_start_again reported_parameters (fresh_of v.key start rested.stands).origin.reported,
       )
@@ -306,7 +306,7 @@ unfolding got
 reset_knows v (start, x) d f = knows start v x d f
 
 -- the whole dialogue, whatever stands behind the end
-pub reset_dialogue : (start : Standing) (v : ResetView) (now : Standing) (reports : List Kept) → now ≡ v.link → reports ≡ after_frames v.reports (answer_in v.received).frames → are_known v.reports (answer_in v.received).frames ≡ true → is_at_start reports ≡ true
+pub reset_dialogue : (start : Standing) (v : ResetView) (now : Standing) (reports : List KeptReport) → now ≡ v.link → reports ≡ after_frames v.reports (answer_in v.received).frames → are_known v.reports (answer_in v.received).frames ≡ true → is_at_start reports ≡ true
     → IsAnsweredReset v → IsResetFrom start v → IsResetDialogue start v.reports now reports
 reset_dialogue start v now reports same told known back d x = record {
   answer = (answer_in v.received).frames;
@@ -319,7 +319,7 @@ reset_dialogue start v now reports same told known back d x = record {
 }
 
 -- it makes a used link clean
-pub reset_clean : (v : ResetView) (reports : List Kept) → IsReset v → IsAnsweredReset v → reports ≡ after_frames v.reports (answer_in v.received).frames → are_known v.reports (answer_in v.received).frames ≡ true → is_at_start reports ≡ true → IsClean v.link v.key v.server_key reports
+pub reset_clean : (v : ResetView) (reports : List KeptReport) → IsReset v → IsAnsweredReset v → reports ≡ after_frames v.reports (answer_in v.received).frames → are_known v.reports (answer_in v.received).frames ≡ true → is_at_start reports ≡ true → IsClean v.link v.key v.server_key reports
 unfolding got
 reset_clean v reports (start, x) d told known back = record {
   came = by_reset x.used.came.came x.used.came.lease (reset_dialogue start v v.link reports refl told known back d x);

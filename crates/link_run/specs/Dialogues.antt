@@ -14,7 +14,7 @@ use Rattle.message_view.specs.declared.ViewError.{ViewError}
 use Rattle.message_view.specs.declared.views.KeyView.{KeyView}
 use Rattle.message_view.specs.Reading.{authentication_of, key_of, status_of}
 use Rattle.start_keys.specs.StartPairs.{Text}
-use Rattle.param_track.specs.Kept.{Kept, fits, has_name, is_at_start, with_first}
+use Rattle.param_track.specs.KeptReports.{KeptReport, fits, has_name, is_at_start, with_first}
 use Rattle.param_track.specs.Reports.{Report}
 use Rattle.session_run_laws.specs.Laws.{discard_all}
 use Rattle.server_end.specs.Standing.{Standing, Moves}
@@ -98,18 +98,18 @@ pub record IsStartAnswer (replies : List FrameOf) : Type 0 where
   pub is_welcome : AllByRecursion IsOfWelcome welcome
 
 -- what is kept of the reports of an answer to a start, where each can be read and they are of at most 64 names
-abbrev pub added : List Kept → Result Report ViewError → Option (List Kept)
+abbrev pub added : List KeptReport → Result Report ViewError → Option (List KeptReport)
 added kept (Ok r) = if fits kept r.0 then Some (with_first kept r) else None
 added kept (Err fault) = None
 
-abbrev pub reported_by : List Kept → FrameOf → Option (List Kept)
+abbrev pub reported_by : List KeptReport → FrameOf → Option (List KeptReport)
 reported_by kept f = if f.kind == PARAMETER_STATUS then added kept (status_of f.body) else Some kept
 
-abbrev pub reported_next : Option (List Kept) → (List Kept → Option (List Kept)) → Option (List Kept)
+abbrev pub reported_next : Option (List KeptReport) → (List KeptReport → Option (List KeptReport)) → Option (List KeptReport)
 reported_next (Some kept) go = go kept
 reported_next None go = None
 
-abbrev pub reported_all : List Kept → List FrameOf → Option (List Kept)
+abbrev pub reported_all : List KeptReport → List FrameOf → Option (List KeptReport)
 reported_all kept [] = Some kept
 reported_all kept (f ∷ fs) = reported_next (reported_by kept f) (λ k. reported_all k fs)
 
@@ -163,21 +163,21 @@ abbrev pub IsResetAnswer : List FrameOf → Type 0
 IsResetAnswer fs = answered_by_all Nothing fs ≡ All
 
 -- a ParameterStatus can be read, and names a parameter that is kept
-abbrev pub names_kept : List Kept → Result (Text × Text) ViewError → Bool
+abbrev pub names_kept : List KeptReport → Result (Text × Text) ViewError → Bool
 names_kept kept (Ok report) = has_name kept report.0
 names_kept kept (Err fault) = false
 
-abbrev pub is_known : List Kept → FrameOf → Bool
+abbrev pub is_known : List KeptReport → FrameOf → Bool
 is_known kept f = if f.kind == PARAMETER_STATUS then names_kept kept (status_of f.body) else true
 
-abbrev pub are_known : List Kept → List FrameOf → Bool
+abbrev pub are_known : List KeptReport → List FrameOf → Bool
 are_known kept [] = true
 are_known kept (f ∷ fs) = is_known kept f && are_known (after_frame kept f) fs
 
 -- The whole dialogue of a reset of a link that keeps `kept`, from where it stood to where it stands and what it keeps then: the Query,
 -- no byte more or less, and the whole frames of its answer, and nothing behind them. Each report of the answer is of a name that the
 -- link keeps, and is kept; after it the values are those of the start.
-pub record IsResetDialogue (start : Standing) (kept : List Kept) (now : Standing) (reports : List Kept) : Type 0 where
+pub record IsResetDialogue (start : Standing) (kept : List KeptReport) (now : Standing) (reports : List KeptReport) : Type 0 where
   pub answer : List FrameOf
   pub moves : Moves start (spelling discard_all) now (flat_map spelling answer)
   pub each : AllByRecursion (IsFrame Server MAX_REPLY) answer

@@ -7,7 +7,7 @@ use Rattle.frame_view.specs.Frames.{FrameOf, spelling}
 use Rattle.message_view.specs.declared.views.KeyView.{KeyView}
 use Rattle.session_values.specs.State.{StartKeyOf}
 use Rattle.session_run_laws.specs.Settling.{IsAnswered}
-use Rattle.param_track.specs.Kept.{Kept}
+use Rattle.param_track.specs.KeptReports.{KeptReport}
 use Rattle.server_end.specs.Standing.{Standing, Moves}
 use Rattle.link_model.specs.Dialogues.{IsNew, start_packets}
 use Rattle.link_model.specs.Stages.{packets_bytes}
@@ -17,7 +17,7 @@ use Rattle.link_run.specs.Dialogues.{IsResetDialogue, IsStartAnswer, TellsKey, r
 -- Its StartupMessage was sent, of this key, and the answers to questions where there were any; what came is the whole answer to a
 -- start, no byte more or less; and this is the server's key, and these are the reports, that the answer told. Where the end follows, its
 -- server was new then.
-pub record HasStarted (key : StartKeyOf) (at : Standing) (server_key : Option KeyView) (reports : List Kept) : Type 0 where
+pub record HasStarted (key : StartKeyOf) (at : Standing) (server_key : Option KeyView) (reports : List KeptReport) : Type 0 where
   pub began : Standing
   pub is_new : began.follows ≡ true → IsNew began
   pub given : List (List ℕ)
@@ -29,7 +29,7 @@ pub record HasStarted (key : StartKeyOf) (at : Standing) (server_key : Option Ke
 
 -- A lease went over it since it stood there and kept these reports: whole frames each way, and none was sent, or all are answered; and
 -- of each report it keeps the value that those frames told last.
-pub record HasSettled (clean : Standing) (kept : List Kept) (at : Standing) (reports : List Kept) : Type 0 where
+pub record HasSettled (clean : Standing) (kept : List KeptReport) (at : Standing) (reports : List KeptReport) : Type 0 where
   pub sent : List FrameOf
   pub received : List FrameOf
   pub moves : Moves clean (flat_map spelling sent) at (flat_map spelling received)
@@ -37,29 +37,29 @@ pub record HasSettled (clean : Standing) (kept : List Kept) (at : Standing) (rep
   pub told : reports ≡ after_frames kept received
 
 -- by its start, or by the reset of a clean link that was leased
-pub data CameClean (key : StartKeyOf) (server_key : Option KeyView) : Standing → List Kept → Type 0 where
-  by_start : {at : Standing} {reports : List Kept} → HasStarted key at server_key reports → CameClean key server_key at reports
-  by_reset : {clean used at : Standing} {kept left reports : List Kept} → CameClean key server_key clean kept → HasSettled clean kept used left → IsResetDialogue used left at reports → CameClean key server_key at reports
+pub data CameClean (key : StartKeyOf) (server_key : Option KeyView) : Standing → List KeptReport → Type 0 where
+  by_start : {at : Standing} {reports : List KeptReport} → HasStarted key at server_key reports → CameClean key server_key at reports
+  by_reset : {clean used at : Standing} {kept left reports : List KeptReport} → CameClean key server_key clean kept → HasSettled clean kept used left → IsResetDialogue used left at reports → CameClean key server_key at reports
 
 -- a clean link was leased
-pub record CameUsed (key : StartKeyOf) (server_key : Option KeyView) (at : Standing) (reports : List Kept) : Type 0 where
+pub record CameUsed (key : StartKeyOf) (server_key : Option KeyView) (at : Standing) (reports : List KeptReport) : Type 0 where
   pub clean : Standing
-  pub kept : List Kept
+  pub kept : List KeptReport
   pub came : CameClean key server_key clean kept
   pub lease : HasSettled clean kept at reports
 
 -- ---- by the kinds of link
 
 -- where its end follows, it is fresh, too
-pub record IsClean (at : Standing) (key : StartKeyOf) (server_key : Option KeyView) (reports : List Kept) : Type 0 where
+pub record IsClean (at : Standing) (key : StartKeyOf) (server_key : Option KeyView) (reports : List KeptReport) : Type 0 where
   pub came : CameClean key server_key at reports
   pub fresh : at.follows ≡ true → IsFreshLink at key reports
 
 -- where its end follows and lives, it is at rest, too
-pub record IsUsed (at : Standing) (key : StartKeyOf) (server_key : Option KeyView) (reports : List Kept) : Type 0 where
+pub record IsUsed (at : Standing) (key : StartKeyOf) (server_key : Option KeyView) (reports : List KeptReport) : Type 0 where
   pub came : CameUsed key server_key at reports
   pub rests : at.follows ≡ true → at.lives ≡ true → IsRestingLink at key reports
 
 -- What nothing was sent over and nothing came from is as clean as it was.
 abbrev pub UntouchedIsClean : Type 0
-UntouchedIsClean = (key : StartKeyOf) (server_key : Option KeyView) (clean at : Standing) (reports : List Kept) → CameClean key server_key clean reports → Moves clean [] at [] → CameClean key server_key at reports
+UntouchedIsClean = (key : StartKeyOf) (server_key : Option KeyView) (clean at : Standing) (reports : List KeptReport) → CameClean key server_key clean reports → Moves clean [] at [] → CameClean key server_key at reports

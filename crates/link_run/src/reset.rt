@@ -1,6 +1,6 @@
 //! The reset of a used link by `DISCARD ALL`.
 ghost use Rattle.std.specs.Prelude.{◌≡◌, ◌≢◌, ◌+◌, ◌<◌, ◌≤◌, ◌⊎◌, false, true, IfErr, IfOk};
-ghost use Rattle.param_track.specs.Kept.{is_at_start};
+ghost use Rattle.param_track.specs.KeptReports.{is_at_start};
 ghost use Rattle.link_run.specs.Dialogues.{IsResetDialogue};
 ghost use Rattle.link_run.specs.Resets.{EndsDialogue, FailsAtEnd, FailsBy, IsAnsweredReset, IsDisturbedReset, IsOther, IsPaced, IsPacedToEnd, IsResetFrom, IsUnfinished, KeepsReset, MoveFailsBy, ReadsOnce, is_over, read_so_far};
 ghost use Rattle.link_run.specs.declared.reset.ResetError.TheVariants.{Lost};

@@ -19,7 +19,7 @@ use Rattle.session_values.specs.Service.{welcome}
 use Rattle.session_laws.specs.Laws.{IsReport}
 use Rattle.session_laws.specs.Starts.{Welcomes}
 use Rattle.session_laws.proofs.ByName.{reports_are_read}
-use Rattle.param_track.specs.Kept.{Kept, first_told, has_name, kept_of, place_of, with_first}
+use Rattle.param_track.specs.KeptReports.{KeptReport, first_told, has_name, kept_of, place_of, with_first}
 use Rattle.param_track.specs.Reports.{Report}
 use Rattle.param_track.proofs.Reporting.{first_new, has_at}
 use Rattle.link_run.specs.Links.{reports_with, kept_by}
@@ -63,7 +63,7 @@ read_as p v r =
 
 -- ---- a new name comes last
 
-abbrev names : List Kept → List Text
+abbrev names : List KeptReport → List Text
 names kept = map (λ k. k.name) kept
 
 abbrev among : Text → List Text → Bool
@@ -77,7 +77,7 @@ are_apart ns (p ∷ ps) = not (among (name p) ns) && are_apart (ns ++ name p ∷
 nine_are_apart : are_apart [] reported_parameters ≡ true
 nine_are_apart = refl
 
-names_told : (kept : List Kept) (n : Text) → has_name kept n ≡ among n (names kept)
+names_told : (kept : List KeptReport) (n : Text) → has_name kept n ≡ among n (names kept)
 names_told [] n = refl
 names_told (k ∷ kept) n = ap (λ (b : Bool). bytes_eq k.name n || b) (names_told kept n)
 
@@ -89,19 +89,19 @@ both : (a b : Bool) → (a && b) ≡ true → (a ≡ true) × (b ≡ true)
 both true b e = (refl, e)
 both false b e = absurd (true≢false (sym e))
 
-names_with : (kept : List Kept) (r : Report) → names (kept ++ first_told r ∷ []) ≡ names kept ++ r.0 ∷ []
+names_with : (kept : List KeptReport) (r : Report) → names (kept ++ first_told r ∷ []) ≡ names kept ++ r.0 ∷ []
 names_with [] r = refl
 names_with (k ∷ kept) r = ap (λ (ns : List Text). k.name ∷ ns) (names_with kept r)
 
-comes_last : (kept : List Kept) (r : Report) → has_name kept r.0 ≡ false → with_first kept r ≡ kept ++ first_told r ∷ []
+comes_last : (kept : List KeptReport) (r : Report) → has_name kept r.0 ≡ false → with_first kept r ≡ kept ++ first_told r ∷ []
 comes_last kept r e = first_new kept r (ltb-false (place_of r.0 kept) (length kept) (sym (has_at r.0 kept) ∙ e))
 
-one_more : (kept : List Kept) (p : Parameter) (v : Text) → length kept < 64 → has_name kept (name p) ≡ false → IsReport (parameter_status (name p) v)
+one_more : (kept : List KeptReport) (p : Parameter) (v : Text) → length kept < 64 → has_name kept (name p) ≡ false → IsReport (parameter_status (name p) v)
     → reported_by kept (parameter_status (name p) v) ≡ Some (kept ++ first_told (name p, v) ∷ [])
 one_more kept p v room new r =
     ap (added kept) (read_as p v r)
     ∙ ap₂ (λ (a b : Bool). if a || b then Some (with_first kept (name p, v)) else None) new (lt-ltb (length kept) 64 room)
-    ∙ ap (λ (ks : List Kept). Some ks) (comes_last kept (name p, v) new)
+    ∙ ap (λ (ks : List KeptReport). Some ks) (comes_last kept (name p, v) new)
 
 -- ---- all of them
 
@@ -111,18 +111,18 @@ same_bytes t = (bytes_eq-Decides t t).1 refl
 kept_first : (p : Parameter) (v : Text) (ps : List Parameter) (vs : List Text) → kept_of (reports_with (p ∷ ps) (v ∷ vs)) (v ∷ vs) ≡ first_told (name p, v) ∷ kept_of (reports_with ps vs) vs
 kept_first p v ps vs = ap (λ (b : Bool). record { name = name p; value = v; differs = not b } ∷ kept_of (reports_with ps vs) vs) (same_bytes v)
 
-all_more : (kept : List Kept) (ps : List Parameter) (vs : List Text) (more : List FrameOf) → length kept + length ps ≤ 64 → are_apart (names kept) ps ≡ true → AllByRecursion IsReport (all_reports_from ps vs)
+all_more : (kept : List KeptReport) (ps : List Parameter) (vs : List Text) (more : List FrameOf) → length kept + length ps ≤ 64 → are_apart (names kept) ps ≡ true → AllByRecursion IsReport (all_reports_from ps vs)
     → reported_all kept (all_reports_from ps vs ++ more) ≡ reported_all (kept ++ kept_of (reports_with ps vs) vs) more
-all_more kept [] vs more room apart each = ap (λ (ks : List Kept). reported_all ks more) (sym (append-nil kept))
-all_more kept (p ∷ ps) [] more room apart each = ap (λ (ks : List Kept). reported_all ks more) (sym (append-nil kept))
+all_more kept [] vs more room apart each = ap (λ (ks : List KeptReport). reported_all ks more) (sym (append-nil kept))
+all_more kept (p ∷ ps) [] more room apart each = ap (λ (ks : List KeptReport). reported_all ks more) (sym (append-nil kept))
 all_more kept (p ∷ ps) (v ∷ vs) more room apart each =
     let a = both (not (among (name p) (names kept))) (are_apart (names kept ++ name p ∷ []) ps) apart in
     let new : has_name kept (name p) ≡ false = names_told kept (name p) ∙ not_true (among (name p) (names kept)) a.0 in
-    let next : List Kept = kept ++ first_told (name p, v) ∷ [] in
+    let next : List KeptReport = kept ++ first_told (name p, v) ∷ [] in
     let rest : are_apart (names next) ps ≡ true = ap (λ (ns : List Text). are_apart ns ps) (names_with kept (name p, v)) ∙ a.1 in
-    ap (λ (o : Option (List Kept)). reported_next o (λ ks. reported_all ks (all_reports_from ps vs ++ more))) (one_more kept p v (omega (arith, room)) new each.0)
+    ap (λ (o : Option (List KeptReport)). reported_next o (λ ks. reported_all ks (all_reports_from ps vs ++ more))) (one_more kept p v (omega (arith, room)) new each.0)
     ∙ all_more next ps vs more (omega (arith, room, length-append kept (first_told (name p, v) ∷ []))) rest each.1
-    ∙ ap (λ (ks : List Kept). reported_all ks more) (append_assoc kept (first_told (name p, v) ∷ []) (kept_of (reports_with ps vs) vs) ∙ ap (λ (ks : List Kept). kept ++ ks) (sym (kept_first p v ps vs)))
+    ∙ ap (λ (ks : List KeptReport). reported_all ks more) (append_assoc kept (first_told (name p, v) ∷ []) (kept_of (reports_with ps vs) vs) ∙ ap (λ (ks : List KeptReport). kept ++ ks) (sym (kept_first p v ps vs)))
 
 -- the welcome reports the session's values
 pub welcome_reports : (s : State) (pid secret : ℕ) → Welcomes s pid secret → reported_all [] (welcome s pid secret) ≡ Some (kept_by s.reported s.reported)

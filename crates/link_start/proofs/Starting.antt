@@ -17,7 +17,7 @@ use Rattle.message_view.specs.Bodies.{Text}
 use Rattle.session_values.specs.declared.cause.Cause.{Cause}
 use Rattle.session_values.specs.State.{State, StartKeyOf, fresh}
 use Rattle.credentials.specs.Credentials.{CredentialOf}
-use Rattle.param_track.specs.Kept.{Kept}
+use Rattle.param_track.specs.KeptReports.{KeptReport}
 use Rattle.link_model.specs.Stages.{Server, Auth, Packet, packet_bytes, packets_bytes}
 use Rattle.link_model.specs.Standing.{Standing, Moves}
 use Rattle.link_model.specs.Starts.{start_body}
@@ -175,7 +175,7 @@ whole_frames cred v bytes w =
 all_sent : (began now : Standing) (key : StartKeyOf) (given : List (List ℕ)) (unsent received : List ℕ) (s : IsStarting began key given unsent now received) → unsent ≡ [] → s.sent ≡ packets_bytes (start_packets key given)
 all_sent began now key given unsent received s none = sym (append-nil s.sent) ∙ ap (λ (bs : List ℕ). s.sent ++ bs) (sym none) ∙ s.all
 
-pub has_started : (began : Standing) (cred : CredentialOf) (v : StartView) → CanStart cred v.key.user began → AreBytes v.received → IsStartUnderWay began cred v → IsWelcomed cred v → (key : Option KeyView) (kept : List Kept) → TellsKey (frames FromServer 65536 v.received).frames key → reported_all [] (frames FromServer 65536 v.received).frames ≡ Some kept → HasStarted v.key v.end key kept
+pub has_started : (began : Standing) (cred : CredentialOf) (v : StartView) → CanStart cred v.key.user began → AreBytes v.received → IsStartUnderWay began cred v → IsWelcomed cred v → (key : Option KeyView) (kept : List KeptReport) → TellsKey (frames FromServer 65536 v.received).frames key → reported_all [] (frames FromServer 65536 v.received).frames ≡ Some kept → HasStarted v.key v.end key kept
 has_started began cred v can bytes x w key kept keyed reports =
     let s = x.starting in
     record {
@@ -331,7 +331,7 @@ module _ (began : Standing) (cred : CredentialOf) (v : StartView) (c : CanStart 
     unfolding got
     key_is = subst (TellsOwnKey began.server) all_came opens_reported.keyed
 
-pub started_clean : (v : StartView) → IsDone v → (key : Option KeyView) (kept : List Kept) → AreBytes v.received → TellsKey (frames FromServer 65536 v.received).frames key → reported_all [] (frames FromServer 65536 v.received).frames ≡ Some kept → IsClean v.end v.key key kept
+pub started_clean : (v : StartView) → IsDone v → (key : Option KeyView) (kept : List KeptReport) → AreBytes v.received → TellsKey (frames FromServer 65536 v.received).frames key → reported_all [] (frames FromServer 65536 v.received).frames ≡ Some kept → IsClean v.end v.key key kept
 started_clean v (began, (cred, d)) key kept bytes k e = record {
   came = by_start (has_started began cred v d.can_start bytes d.under_way d.welcomed key kept k e);
   fresh = λ f.

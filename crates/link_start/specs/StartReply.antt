@@ -7,7 +7,7 @@ use Rattle.message_view.specs.declared.kinds.TheConstants.{ASKS_NOTHING, ASKS_CL
 use Rattle.message_view.specs.declared.ViewError.{ViewError}
 use Rattle.message_view.specs.declared.views.KeyView.{KeyView}
 use Rattle.message_view.specs.Reading.{authentication_of}
-use Rattle.param_track.specs.Kept.{Kept}
+use Rattle.param_track.specs.KeptReports.{KeptReport}
 use Rattle.credentials.specs.Credentials.{CredentialOf}
 use Rattle.credentials.specs.Exchanges.{ExchangeOf, exchange_of}
 use Rattle.link_run.specs.Dialogues.{IsStartAnswer, offers_scram, reported_all, reported_by}
@@ -174,13 +174,13 @@ abbrev pub error_in : List FrameOf → List ℕ
 error_in [] = []
 error_in (f ∷ fs) = if f.kind == ERROR_RESPONSE then spelling f else error_in fs
 
-abbrev pub Takes : Option (List Kept) → List Kept → Result (Unit {0}) TakeReportError → Type 0
+abbrev pub Takes : Option (List KeptReport) → List KeptReport → Result (Unit {0}) TakeReportError → Type 0
 Takes whole new (Ok u) = whole ≡ Some new
 Takes whole new (Err Unexpected) = whole ≡ None
 Takes whole new (Err Memory) = Unit {0}
 
-abbrev pub TakesReport : List Kept → FrameOf → List Kept → Result (Unit {0}) TakeReportError → Type 0
+abbrev pub TakesReport : List KeptReport → FrameOf → List KeptReport → Result (Unit {0}) TakeReportError → Type 0
 TakesReport old f new r = Takes (reported_by old f) new r
 
-abbrev pub TakesReports : List Kept → List FrameOf → List Kept → Result (Unit {0}) TakeReportError → Type 0
+abbrev pub TakesReports : List KeptReport → List FrameOf → List KeptReport → Result (Unit {0}) TakeReportError → Type 0
 TakesReports old fs new r = Takes (reported_all old fs) new r

@@ -8,11 +8,11 @@ use Rattle.std.proofs.lemmas.List.Sums.{fold_push}
 use Rattle.std.proofs.lemmas.Slice.Eq.{bytes_eq-Decides}
 use Rattle.start_keys.specs.StartPairs.{Text}
 use Rattle.param_track.specs.Reports.{Report, with_start, is_reported, values_of, with_report, last_told}
-use Rattle.param_track.specs.Kept.{Kept, kept_of, has_name, first_told, with_first, told, with_told, is_at_start}
+use Rattle.param_track.specs.KeptReports.{KeptReport, kept_of, has_name, first_told, with_first, told, with_told, is_at_start}
 use Rattle.param_track.specs.ReportLaws.{report_of, ReportsAreTold, AtStartExactly}
 use Rattle.param_track.proofs.Reporting.{told_none}
 
-abbrev kept_one : Report → Text → Kept
+abbrev kept_one : Report → Text → KeptReport
 kept_one p value = record { name = p.0; value = p.1; differs = not (bytes_eq p.1 value) }
 
 -- ---- one more report
@@ -24,14 +24,14 @@ first_is : (p : Report) → first_told p ≡ kept_one p p.1
 first_is p = ap (λ (b : Bool). record { name = p.0; value = p.1; differs = not b }) (sym (same_value p))
 
 first_kept : (start : List Report) (r : Report) → with_first (kept_of start (values_of start)) r ≡ kept_of (with_start start r) (values_of (with_start start r))
-first_kept [] r = ap (λ (k : Kept). k ∷ []) (first_is r)
+first_kept [] r = ap (λ (k : KeptReport). k ∷ []) (first_is r)
 first_kept (p ∷ start) r = go (bytes_eq p.0 r.0) (first_kept start r)
   where
     go : (b : Bool) → with_first (kept_of start (values_of start)) r ≡ kept_of (with_start start r) (values_of (with_start start r)) →
         (if b then first_told r ∷ kept_of start (values_of start) else kept_one p p.1 ∷ with_first (kept_of start (values_of start)) r)
         ≡ kept_of (if b then r ∷ start else p ∷ with_start start r) (values_of (if b then r ∷ start else p ∷ with_start start r))
-    go true ih = ap (λ (k : Kept). k ∷ kept_of start (values_of start)) (first_is r)
-    go false ih = ap (λ (ks : List Kept). kept_one p p.1 ∷ ks) ih
+    go true ih = ap (λ (k : KeptReport). k ∷ kept_of start (values_of start)) (first_is r)
+    go false ih = ap (λ (ks : List KeptReport). kept_one p p.1 ∷ ks) ih
 
 told_kept : (start : List Report) (values : List Text) (r : Report) → with_told (kept_of start values) r ≡ kept_of start (with_report start values r)
 told_kept [] values r = refl
@@ -42,7 +42,7 @@ told_kept (p ∷ start) (value ∷ values) r = go (bytes_eq p.0 r.0) (told_kept 
         (if b then told (kept_one p value) r.1 ∷ kept_of start values else kept_one p value ∷ with_told (kept_of start values) r)
         ≡ kept_of (p ∷ start) (if b then r.1 ∷ values else value ∷ with_report start values r)
     go true ih = refl
-    go false ih = ap (λ (ks : List Kept). kept_one p value ∷ ks) ih
+    go false ih = ap (λ (ks : List KeptReport). kept_one p value ∷ ks) ih
 
 told_pushed : (start reports : List Report) (r : Report) → with_told (kept_of start (last_told start reports)) r ≡ kept_of start (last_told start (reports ++ r ∷ []))
 told_pushed start reports r = told_kept start (last_told start reports) r ∙ ap (kept_of start) (sym (fold_push (with_report start) (values_of start) reports r))
@@ -81,9 +81,9 @@ kept_reports (p ∷ start) (value ∷ values) e = ap (λ (ps : List Report). p �
 
 pub reports-are_told : ReportsAreTold
 reports-are_told = record {
-  starts = λ kept start r e. ap (λ (ks : List Kept). with_first ks r) e ∙ first_kept start r;
-  reports = λ kept start reports r e. ap (λ (ks : List Kept). with_told ks r) e ∙ told_pushed start reports r;
-  names = λ kept start reports name e. ap (λ (ks : List Kept). has_name ks name) e ∙ has_kept start (last_told start reports) name (told_length start reports);
+  starts = λ kept start r e. ap (λ (ks : List KeptReport). with_first ks r) e ∙ first_kept start r;
+  reports = λ kept start reports r e. ap (λ (ks : List KeptReport). with_told ks r) e ∙ told_pushed start reports r;
+  names = λ kept start reports name e. ap (λ (ks : List KeptReport). has_name ks name) e ∙ has_kept start (last_told start reports) name (told_length start reports);
   others = λ kept r e. told_none kept r e;
   order = λ kept start reports e. ap (map report_of) e ∙ kept_reports start (last_told start reports) (told_length start reports);
 }
@@ -108,6 +108,6 @@ start_complete (p ∷ start) = ap (λ (b : Bool). not (not b || list_any (λ k. 
 
 pub at_start-exactly : AtStartExactly
 at_start-exactly kept start reports e = (
-  λ at. start_sound start (last_told start reports) (told_length start reports) (subst (λ (ks : List Kept). is_at_start ks ≡ true) e at),
+  λ at. start_sound start (last_told start reports) (told_length start reports) (subst (λ (ks : List KeptReport). is_at_start ks ≡ true) e at),
   λ same. ap is_at_start (e ∙ ap (kept_of start) same) ∙ start_complete start,
 )

@@ -1,4 +1,4 @@
 pub mod StartKeys
 pub mod Reports
-pub mod Kept
+pub mod KeptReports
 pub mod ReportLaws

@@ -2,8 +2,8 @@
 //! (PostgreSQL manual, "Asynchronous Operations").
 ghost use Rattle.std.specs.Prelude.{◌≡◌, ◌≤◌, ◌<◌, [], true, bytes_eq, length, IfOk, OnErr, OnOk};
 ghost use Rattle.param_track.specs.declared.reported.ReportError.TheVariants.{OutOfMemory};
-ghost use Rattle.param_track.specs.Kept as spec;
-ghost use Rattle.param_track.specs.Kept.{Adds, Tells, first_told, has_name, is_at_start, told, with_first, with_told};
+ghost use Rattle.param_track.specs.KeptReports as spec;
+ghost use Rattle.param_track.specs.KeptReports.{Adds, Tells, first_told, has_name, is_at_start, told, with_first, with_told};
 
 use message_view::StatusView;
 use start_keys::text::Text;
@@ -49,9 +49,9 @@ impl Drop for StartReport {
 }
 
 impl Model for StartReport {
-    ghost use Rattle.param_track.specs.Kept.{Kept};
+    ghost use Rattle.param_track.specs.KeptReports.{KeptReport};
 
-    ghost Value = { Kept };
+    ghost Value = { KeptReport };
 
     ghost view = { λ r. record { name = r.name; value = r.value; differs = r.differs } };
 }
@@ -118,9 +118,9 @@ impl Drop for Reported {
 
 impl Model for Reported {
     ghost use Rattle.std.specs.Prelude.{List};
-    ghost use Rattle.param_track.specs.Kept.{Kept};
+    ghost use Rattle.param_track.specs.KeptReports.{KeptReport};
 
-    ghost Value = { List Kept };
+    ghost Value = { List KeptReport };
 
     ghost view = { λ r. r.reports.items };
 }

@@ -118,7 +118,7 @@ pub(crate) struct Arrival {
 
 /// The settings and users of later clients.
 #[derive(Drop)]
-struct Kept {
+struct InForce {
     settings: Bounded,
     users: Arc<Users>,
     /// How often they were read again.
@@ -126,17 +126,17 @@ struct Kept {
     has_ended: bool,
 }
 
-impl Kept {
+impl InForce {
     fn new(
         alloc: Global,
         settings: Settings,
         users: Users,
         reloads: u64,
-    ) -> Result<Kept, AllocError>
+    ) -> Result<InForce, AllocError>
         requires { AreWithinBounds settings }
         ensures { IfOk result (λ k. k.settings ≡ settings) }
     {
-        Ok(Kept {
+        Ok(InForce {
             settings: Bounded::new(alloc, settings)?,
             users: Arc::new(alloc, users)?,
             reloads,
@@ -177,16 +177,16 @@ fn shared_limits(alloc: Global, settings: &Settings) -> Result<Arc<Limits>, Allo
 #[derive(Drop)]
 struct Reread {
     limits: Arc<Limits>,
-    kept: Kept,
+    kept: InForce,
 }
 
 /// The settings and users of later clients, behind a lock under which no other is taken, and where they are read again.
 pub struct Keeper<R, F: Source> {
     rt: R,
     alloc: Global,
-    kept: Mutex<Kept>,
+    kept: Mutex<InForce>,
     /// What was read again, until the book's answer to its limits is known. This lock is taken before that of what is kept.
-    unsettled: Mutex<Option<Kept>>,
+    unsettled: Mutex<Option<InForce>>,
     /// Nothing is unsettled any more.
     settled: Condvar,
     /// The settings of the start.
@@ -226,7 +226,7 @@ impl<R: Drop, F: Source> Keeper<R, F> {
     ) -> Result<Keeper<R, F>, AllocError>
         requires { AreWithinBounds settings }
     {
-        let kept = Kept::new(alloc, settings, Users::new(users, salts), 0)?;
+        let kept = InForce::new(alloc, settings, Users::new(users, salts), 0)?;
         let at_start = kept.settings.share()?;
         Ok(Keeper {
             rt,
@@ -294,7 +294,7 @@ impl<R: Wait, F: Source> Keeper<R, F> {
         let limits = shared_limits(self.alloc, &settings)?;
         let users = Users::new(table, self.salts);
         let earlier = self.underived()?;
-        let kept = Kept::new(self.alloc, settings, users, earlier.reloads.wrapping_add(1))?;
+        let kept = InForce::new(self.alloc, settings, users, earlier.reloads.wrapping_add(1))?;
         if kept.wants_keys() {
             kept.users.take_over(self.alloc, &earlier.users);
         }
@@ -302,7 +302,7 @@ impl<R: Wait, F: Source> Keeper<R, F> {
     }
 
     /// Waits until nothing is unsettled that was read before.
-    fn wait_settled(&self) -> MutexGuard<'_, Option<Kept>> {
+    fn wait_settled(&self) -> MutexGuard<'_, Option<InForce>> {
         let mut unsettled = self.unsettled.lock(&self.rt);
         for _ in self.rt.forever() {
             if unsettled.is_none() {
@@ -323,7 +323,7 @@ impl<R: Wait, F: Source> Keeper<R, F> {
     }
 
     /// This holds for later clients from now on.
-    fn put_in_force(&self, read: Kept) {
+    fn put_in_force(&self, read: InForce) {
         *self.kept.lock(&self.rt) = read;
         self.changed.notify_all();
     }

@@ -17,7 +17,7 @@ use Rattle.link_model.specs.Standing.{Standing, ClientFacts}
 use Rattle.session_values.proofs.Alls.{all-append}
 use Rattle.link_run.specs.Links.{told_by}
 use Rattle.link_run.specs.Dialogues.{names_kept}
-use Rattle.param_track.specs.Kept.{Kept}
+use Rattle.param_track.specs.KeptReports.{KeptReport}
 use Rattle.message_view.specs.Reading.{status_of}
 use Rattle.frame_view.specs.declared.server.TheConstants.{PARAMETER_STATUS}
 use Rattle.relay_flow.specs.declared.parts.TheConstants.{HEAD}
@@ -70,11 +70,11 @@ same_by : {A : Type 0} (other : A) (q : Bool) (a b : List ℕ) (read : List ℕ 
 same_by other true a b read h = ap read (h refl)
 same_by other false a b read h = refl
 
-same_own : (kept : List Kept) (foreign : Bool) (kind : ℕ) (a b : List ℕ) → (kind ≡ PARAMETER_STATUS → foreign ≡ false → a ≡ b) → is_own kept foreign (a_frame kind a) ≡ is_own kept foreign (a_frame kind b)
+same_own : (kept : List KeptReport) (foreign : Bool) (kind : ℕ) (a b : List ℕ) → (kind ≡ PARAMETER_STATUS → foreign ≡ false → a ≡ b) → is_own kept foreign (a_frame kind a) ≡ is_own kept foreign (a_frame kind b)
 same_own kept true kind a b h = refl
 same_own kept false kind a b h = same_by true (kind == PARAMETER_STATUS) a b (λ (x : List ℕ). names_kept kept (status_of x)) (λ q. h (eqb-true kind PARAMETER_STATUS q) refl)
 
-same_kept : (kept : List Kept) (foreign : Bool) (kind : ℕ) (a b : List ℕ) → (kind ≡ PARAMETER_STATUS → foreign ≡ false → a ≡ b) → kept_after kept foreign (a_frame kind a) ≡ kept_after kept foreign (a_frame kind b)
+same_kept : (kept : List KeptReport) (foreign : Bool) (kind : ℕ) (a b : List ℕ) → (kind ≡ PARAMETER_STATUS → foreign ≡ false → a ≡ b) → kept_after kept foreign (a_frame kind a) ≡ kept_after kept foreign (a_frame kind b)
 same_kept kept true kind a b h = refl
 same_kept kept false kind a b h = same_by kept (kind == PARAMETER_STATUS) a b (λ (x : List ℕ). told_by kept (status_of x)) (λ q. h (eqb-true kind PARAMETER_STATUS q) refl)
 
@@ -87,7 +87,7 @@ last-is held bytes count e =
     let n : length (held ++ bytes) - count ≡ length held = omega (arith, l, e) in
     ap (λ (k : ℕ). drop k (held ++ bytes)) n ∙ drop-append_seam held bytes
 
-module _ (kept after : List Kept) (tc td : FlowView) (ps : Passed) (own : Bool) (front : List ℕ) (y : Passes tc td ps) (s : Spells tc.side tc.limit (front ++ y.bytes) ps.kind ps.status ps.is_foreign)
+module _ (kept after : List KeptReport) (tc td : FlowView) (ps : Passed) (own : Bool) (front : List ℕ) (y : Passes tc td ps) (s : Spells tc.side tc.limit (front ++ y.bytes) ps.kind ps.status ps.is_foreign)
     (server : tc.side ≡ Server) (o : Opens tc.side tc.limit front tc.kind tc.rest) (r : IsRead kept after own td ps) where
   read_body : ps.kind ≡ PARAMETER_STATUS → ps.is_foreign ≡ false → last_body td ps.count ≡ s.frame.body
   read_body k f =
@@ -193,7 +193,7 @@ lease_whole_client p cf l k n b sk w gr tl tc td t u fs ph ps own law o y h e r 
       whole = cc (x.comes.whole, y.part, append_assoc x.front y.bytes td.part, append_assoc (flat_map spelling x.arrived) (spelling s.frame) td.part, s.spelled, more_frames x.arrived s.frame);
     }) (tells_arrived p.reports t u ps own s.frame x.forwarded x.arrived law (arrives_by t u tc td ps own x.front y s x.comes.flow.side_is x.comes.opens e r) x.tally)
 
-pub lease_may_end : (p : Place) (v : RelayView) (td : FlowView) (ps : Passed) (own : Bool) (after : List Kept) → IsLease p v → Passes v.to_client td ps → ps.whole ≡ true → IsRead v.told.reports after own td ps → may_end ps.status (begun_arrived ps own v.told.tally) ≡ true
+pub lease_may_end : (p : Place) (v : RelayView) (td : FlowView) (ps : Passed) (own : Bool) (after : List KeptReport) → IsLease p v → Passes v.to_client td ps → ps.whole ≡ true → IsRead v.told.reports after own td ps → may_end ps.status (begun_arrived ps own v.told.tally) ≡ true
 lease_may_end p v td ps own after x y h r =
     let s : Spells v.to_client.side v.to_client.limit (x.front ++ y.bytes) ps.kind ps.status ps.is_foreign = y.spells h x.front x.comes.opens in
     status_may_end v.told.reports v.told.tally ps own s.frame s.kind_is (s.status_is x.comes.flow.side_is) (own_is v.told.reports after v.to_client td ps own x.front y s x.comes.flow.side_is x.comes.opens r)

@@ -25,7 +25,7 @@ use Rattle.link_run.proofs.Reporting.{told-frames}
 use Rattle.link_model.proofs.Splits.{SplitsOff, split_whole}
 use Rattle.session_run_laws.proofs.ByName.{run_replies_are_frames, run_reports_tell_values}
 use Rattle.session_laws.specs.Laws.{Reaches, after_replies}
-use Rattle.param_track.specs.Kept.{Kept}
+use Rattle.param_track.specs.KeptReports.{KeptReport}
 use Rattle.frame_view.specs.declared.Side.TheVariants.{Server}
 use Rattle.frame_view.specs.declared.frames.TheConstants.{MAX_FRAME}
 use Rattle.session_run_laws.specs.Settling.{IsAnswered}
@@ -173,7 +173,7 @@ kept_now p v x f n w k r =
       stands = r;
       origin = s;
       is_fresh = subst (λ (y : CatalogueOf). fresh y v.key ≡ Ok s) same c.is_fresh;
-      kept = k ∙ ap (λ (ks : List Kept). after_frames ks x.arrived) (x.clean.fresh f).kept ∙ told-frames s.reported s.reported x.arrived ∙ ap (kept_by s.reported) (sym (reported_now p v x f n w r));
+      kept = k ∙ ap (λ (ks : List KeptReport). after_frames ks x.arrived) (x.clean.fresh f).kept ∙ told-frames s.reported s.reported x.arrived ∙ ap (kept_by s.reported) (sym (reported_now p v x f n w r));
     }
 
 -- ---- what a settled lease was

@@ -13,7 +13,7 @@ use Rattle.disposal.specs.Traffics as disposal
 use Rattle.disposal.specs.Traffics.{Sent, SendBegins, SendEnds, Got, GetBegins, GetEnds, Breaks, more, begins_closing, begins_ready, or_later, status_after, breaks, is_foreign as foreign_status, IsSettled}
 use Rattle.disposal.specs.Tallies.{Tally, Tells, may_end, got_begun, got_ended, send_begun, verdict_of}
 use Rattle.disposal.specs.declared.Verdict.TheVariants.{Settled}
-use Rattle.param_track.specs.Kept.{Kept}
+use Rattle.param_track.specs.KeptReports.{KeptReport}
 use Rattle.link_run.specs.Links.{after_frame, after_frames}
 use Rattle.disposal.specs.Laws.{CallsTell, SettledExactly}
 use Rattle.session_run_laws.specs.Settling.{count, closes, is_ready, last_status, IsAnswered}
@@ -31,7 +31,7 @@ abbrev IsUsual : FrameOf → Type 0
 IsUsual f = is_foreign f ≡ false
 
 -- each may be sent by a session that began with these reports
-abbrev AreOwn : List Kept → List FrameOf → Type 0
+abbrev AreOwn : List KeptReport → List FrameOf → Type 0
 AreOwn kept [] = Unit {0}
 AreOwn kept (f ∷ fs) = (is_own kept (is_foreign f) f ≡ true) × AreOwn (kept_after kept (is_foreign f) f) fs
 
@@ -53,28 +53,28 @@ own_by : (own b : Bool) (kind : ℕ) (status : Option ℕ) (rest : List Got) →
 own_by true b kind status rest e = record { is_one = refl; behind = (b || false) || foreign_status status; unbroken = e }
 own_by false b kind status rest e = absurd (true≢false (sym (ap (λ (s : Bool). fold breaks_by s rest) (or_true (b || false) (foreign_status status)) ∙ still_broken rest) ∙ e))
 
-none_foreign : (b : Bool) (kept : List Kept) (fs : List FrameOf) → fold breaks_by b (all_came kept fs) ≡ false → AreOwn kept fs
+none_foreign : (b : Bool) (kept : List KeptReport) (fs : List FrameOf) → fold breaks_by b (all_came kept fs) ≡ false → AreOwn kept fs
 none_foreign b kept [] e = tt
 none_foreign b kept (f ∷ fs) e =
     let o = own_by (is_own kept (is_foreign f) f) b f.kind (status_in f) (all_came (kept_after kept (is_foreign f) f) fs) e in
     (o.is_one, none_foreign o.behind (kept_after kept (is_foreign f) f) fs o.unbroken)
 
-usual_by : (kept : List Kept) (foreign : Bool) (f : FrameOf) → is_own kept foreign f ≡ true → foreign ≡ false
+usual_by : (kept : List KeptReport) (foreign : Bool) (f : FrameOf) → is_own kept foreign f ≡ true → foreign ≡ false
 usual_by kept true f e = absurd (false≢true e)
 usual_by kept false f e = refl
 
-usual : (kept : List Kept) (fs : List FrameOf) → AreOwn kept fs → AllByRecursion IsUsual fs
+usual : (kept : List KeptReport) (fs : List FrameOf) → AreOwn kept fs → AllByRecursion IsUsual fs
 usual kept [] h = tt
 usual kept (f ∷ fs) h = (usual_by kept (is_foreign f) f h.0, usual (kept_after kept (is_foreign f) f) fs h.1)
 
 abbrev own_as : FrameOf → List Got
 own_as f = GetBegins f.kind ∷ GetEnds (status_in f) ∷ []
 
-all_own : (kept : List Kept) (fs : List FrameOf) → AreOwn kept fs → all_came kept fs ≡ flat_map own_as fs
+all_own : (kept : List KeptReport) (fs : List FrameOf) → AreOwn kept fs → all_came kept fs ≡ flat_map own_as fs
 all_own kept [] h = refl
 all_own kept (f ∷ fs) h = ap₂ (λ (c : Bool) (rest : List Got). GetBegins f.kind ∷ or_breaks c (GetEnds (status_in f) ∷ []) ++ rest) h.0 (all_own (kept_after kept (is_foreign f) f) fs h.1)
 
-usual_kept : (kept : List Kept) (fs : List FrameOf) → AllByRecursion IsUsual fs → all_kept kept fs ≡ after_frames kept fs
+usual_kept : (kept : List KeptReport) (fs : List FrameOf) → AllByRecursion IsUsual fs → all_kept kept fs ≡ after_frames kept fs
 usual_kept kept [] h = refl
 usual_kept kept (f ∷ fs) h = ap (λ (foreign : Bool). all_kept (kept_after kept foreign f) fs) h.0 ∙ usual_kept (after_frame kept f) fs h.1
 
@@ -149,7 +149,7 @@ ends_idle (f ∷ fs) own x body i e = by_ready f fs x body (is_ready f) (ends_id
 
 -- ---- what is settled was answered
 
-settled : (kept : List Kept) (sent received : List FrameOf) → AreOwn kept received → IsSettled (flat_map sent_as sent) (all_came kept received) → (sent ≡ []) ⊎ IsAnswered sent received
+settled : (kept : List KeptReport) (sent received : List FrameOf) → AreOwn kept received → IsSettled (flat_map sent_as sent) (all_came kept received) → (sent ≡ []) ⊎ IsAnswered sent received
 settled kept sent received own s = ⊎_elim (λ none. inl (none_sent sent none)) (λ some. inr (answered some.0 some.1 some.2 some.3)) s.at_rest
   where
     got_is : all_came kept received ≡ flat_map own_as received
@@ -167,11 +167,11 @@ settled kept sent received own s = ⊎_elim (λ none. inl (none_sent sent none))
           idle = ends_idle received (usual kept received own) None [] (λ e. absurd (cc)) (ap (λ (got : List Got). fold status_after None got) (sym got_is) ∙ idle);
         }
 
-pub record Answered (kept : List Kept) (t : Told) (sent received : List FrameOf) : Type 0 where
+pub record Answered (kept : List KeptReport) (t : Told) (sent received : List FrameOf) : Type 0 where
   pub answers : (sent ≡ []) ⊎ IsAnswered sent received
   pub keeps : t.reports ≡ after_frames kept received
 
-pub answered_by : (kept : List Kept) (t : Told) (sent received : List FrameOf) → SettledExactly → Telling kept t sent received → verdict_of t.tally ≡ Settled → Answered kept t sent received
+pub answered_by : (kept : List KeptReport) (t : Told) (sent received : List FrameOf) → SettledExactly → Telling kept t sent received → verdict_of t.tally ≡ Settled → Answered kept t sent received
 answered_by kept t sent received law x e =
     let s : IsSettled (flat_map sent_as sent) (all_came kept received) = law.sound t.tally (flat_map sent_as sent) (all_came kept received) x.tells e in
     let own : AreOwn kept received = none_foreign false kept received s.unbroken in
@@ -182,7 +182,7 @@ answered_by kept t sent received law x e =
 sent-more : (fs : List FrameOf) (f : FrameOf) → (flat_map sent_as fs ++ SendBegins f.kind ∷ []) ++ SendEnds ∷ [] ≡ flat_map sent_as (fs ++ f ∷ [])
 sent-more fs f = append_assoc (flat_map sent_as fs) (SendBegins f.kind ∷ []) (SendEnds ∷ []) ∙ sym (flat_map-append sent_as fs (f ∷ []))
 
-pub tells_sent : (kept : List Kept) (t u : Told) (kind : ℕ) (f : FrameOf) (sent received : List FrameOf) → CallsTell → u.tally ≡ told_sent kind t.tally → u.reports ≡ t.reports → f.kind ≡ kind → Telling kept t sent received → Telling kept u (sent ++ f ∷ []) received
+pub tells_sent : (kept : List KeptReport) (t u : Told) (kind : ℕ) (f : FrameOf) (sent received : List FrameOf) → CallsTell → u.tally ≡ told_sent kind t.tally → u.reports ≡ t.reports → f.kind ≡ kind → Telling kept t sent received → Telling kept u (sent ++ f ∷ []) received
 tells_sent kept t u kind f sent received law e r k x = record {
   sending = ap (λ (v : Tally). v.is_sending) e;
   getting = ap (λ (v : Tally). v.getting) e ∙ x.getting;
@@ -207,24 +207,24 @@ ends_ready : (kind b : ℕ) (t : Tally) (own : Bool) → disposal.is_ready kind 
 ends_ready kind b t true e = e
 ends_ready kind b t false e = e
 
-ends_by : (k : Bool) (kept : List Kept) (f : FrameOf) (body : List ℕ) (t : Tally) (long : Bool) → disposal.is_ready f.kind ≡ k → may_end (if k then byte_in body else None) (or_broken (is_own kept ((k && not (length body == 1)) || long) f) (got_begun f.kind t)) ≡ true
+ends_by : (k : Bool) (kept : List KeptReport) (f : FrameOf) (body : List ℕ) (t : Tally) (long : Bool) → disposal.is_ready f.kind ≡ k → may_end (if k then byte_in body else None) (or_broken (is_own kept ((k && not (length body == 1)) || long) f) (got_begun f.kind t)) ≡ true
 ends_by false kept f body t long e = ends_other f.kind t (is_own kept long f) e
 ends_by true kept f (b ∷ []) t long e = ends_ready f.kind b t (is_own kept long f) e
 ends_by true kept f [] t long e = refl
 ends_by true kept f (b ∷ c ∷ body) t long e = subst (λ (one : Bool). may_end None (or_broken (is_own kept (not one || long) f) (got_begun f.kind t)) ≡ true) (sym (ne_eqb (length (b ∷ c ∷ body)) 1 (λ same. omega (arith, same)))) refl
 
-pub status_may_end : (kept : List Kept) (t : Tally) (p : Passed) (own : Bool) (f : FrameOf) → f.kind ≡ p.kind → p.status ≡ status_in f → own ≡ is_own kept (is_foreign f) f → may_end p.status (begun_arrived p own t) ≡ true
+pub status_may_end : (kept : List KeptReport) (t : Tally) (p : Passed) (own : Bool) (f : FrameOf) → f.kind ≡ p.kind → p.status ≡ status_in f → own ≡ is_own kept (is_foreign f) f → may_end p.status (begun_arrived p own t) ≡ true
 status_may_end kept t p own f k status o =
     ap₂ (λ (x : Option ℕ) (c : Bool). may_end x (or_broken c (got_begun p.kind t))) status o
     ∙ subst (λ (n : ℕ). may_end (status_in f) (or_broken (is_own kept (is_foreign f) f) (got_begun n t)) ≡ true) k (ends_by (f.kind == READY_FOR_QUERY) kept f f.body t (f.kind == PARAMETER_STATUS && nat_lt MAX_STATUS (length f.body)) refl)
 
-came-more : (kept : List Kept) (fs : List FrameOf) (f : FrameOf) → all_came kept (fs ++ f ∷ []) ≡ all_came kept fs ++ came_as (all_kept kept fs) f
+came-more : (kept : List KeptReport) (fs : List FrameOf) (f : FrameOf) → all_came kept (fs ++ f ∷ []) ≡ all_came kept fs ++ came_as (all_kept kept fs) f
 came-more kept [] f = append-nil (came_as kept f)
 came-more kept (g ∷ fs) f =
     ap (λ (rest : List Got). came_as kept g ++ rest) (came-more (kept_after kept (is_foreign g) g) fs f)
     ∙ sym (append_assoc (came_as kept g) (all_came (kept_after kept (is_foreign g) g) fs) (came_as (all_kept (kept_after kept (is_foreign g) g) fs) f))
 
-kept-more : (kept : List Kept) (fs : List FrameOf) (f : FrameOf) → all_kept kept (fs ++ f ∷ []) ≡ kept_after (all_kept kept fs) (is_foreign f) f
+kept-more : (kept : List KeptReport) (fs : List FrameOf) (f : FrameOf) → all_kept kept (fs ++ f ∷ []) ≡ kept_after (all_kept kept fs) (is_foreign f) f
 kept-more kept [] f = refl
 kept-more kept (g ∷ fs) f = kept-more (kept_after kept (is_foreign g) g) fs f
 
@@ -247,14 +247,14 @@ pub record Arrives (t u : Told) (p : Passed) (own : Bool) (f : FrameOf) : Type 0
   pub tally_is : u.tally ≡ told_arrived p own t.tally
   pub reports_is : u.reports ≡ kept_after t.reports (is_foreign f) f
 
-pub tells_arrived : (kept : List Kept) (t u : Told) (p : Passed) (own : Bool) (f : FrameOf) (sent received : List FrameOf) → CallsTell → Arrives t u p own f → Telling kept t sent received → Telling kept u sent (received ++ f ∷ [])
+pub tells_arrived : (kept : List KeptReport) (t u : Told) (p : Passed) (own : Bool) (f : FrameOf) (sent received : List FrameOf) → CallsTell → Arrives t u p own f → Telling kept t sent received → Telling kept u sent (received ++ f ∷ [])
 tells_arrived kept t u p own f sent received law a x = record {
   sending = ap (λ (v : Tally). v.is_sending) a.tally_is ∙ still_border own;
   getting = ap (λ (v : Tally). v.getting) a.tally_is;
   tells = subst (λ (v : Tally). Tells v (flat_map sent_as sent) (all_came kept (received ++ f ∷ []))) (sym a.tally_is)
       (subst (λ (l : List Got). Tells (told_arrived p own t.tally) (flat_map sent_as sent) l) events
       (came_in_turn own law t.tally p.kind p.status (flat_map sent_as sent) (all_came kept received) x.getting (status_may_end t.reports t.tally p own f a.kind_is a.status_is a.own_is) x.tells));
-  keeps = a.reports_is ∙ ap (λ (k : List Kept). kept_after k (is_foreign f) f) x.keeps ∙ sym (kept-more kept received f);
+  keeps = a.reports_is ∙ ap (λ (k : List KeptReport). kept_after k (is_foreign f) f) x.keeps ∙ sym (kept-more kept received f);
 }
   where
     still_border : (own : Bool) → (told_arrived p own t.tally).is_sending ≡ false
@@ -265,7 +265,7 @@ tells_arrived kept t u p own f sent received law a x = record {
     one = rw (a.own_is, a.status_is, sym a.kind_is) refl
 
     events : all_came kept received ++ GetBegins p.kind ∷ or_breaks own (GetEnds p.status ∷ []) ≡ all_came kept (received ++ f ∷ [])
-    events = ap (λ (l : List Got). all_came kept received ++ l) (one ∙ ap (λ (k : List Kept). came_as k f) x.keeps) ∙ sym (came-more kept received f)
+    events = ap (λ (l : List Got). all_came kept received ++ l) (one ∙ ap (λ (k : List KeptReport). came_as k f) x.keeps) ∙ sym (came-more kept received f)
 
-pub tells_none : (kept : List Kept) (t : Told) → Tells t.tally [] [] → t.reports ≡ kept → Telling kept t [] []
+pub tells_none : (kept : List KeptReport) (t : Told) → Tells t.tally [] [] → t.reports ≡ kept → Telling kept t [] []
 tells_none kept t x r = record { sending = ap (λ (u : Tally). u.is_sending) x.counts; getting = ap (λ (u : Tally). u.getting) x.counts; tells = x; keeps = r }

@@ -18,7 +18,7 @@ use Rattle.relay_model.specs.declared.Next.TheVariants.{Again, Wait, ClientDone}
 use Rattle.relay_flow.specs.Flows.{FlowView, SameCursor, came, count_of, Fills, IsPositive, is_faulty, is_last_end, is_open, is_empty}
 use Rattle.relay_model.specs.Leases.{RelayView, relay_view, any_over, is_end, is_fault, link_moved, client_read, client_wrote}
 use Rattle.relay_model.specs.Answers.{is_quiet, judged, moved_or, quiet_next}
-use Rattle.relay_model.specs.Steps.{bytes_moved, Adds, HasRoom, over_in, Kept, may_read_client, may_read_link, may_write_link, may_write_client, IsStuck, IsStuckClient, HoldsAll, OnlyToLink, OnlyToClient, ReadsClient, WritesLink, ReadsLink, WritesClient, LeavesSides, StopsLink, IsOnce, Waits}
+use Rattle.relay_model.specs.Steps.{bytes_moved, Adds, HasRoom, over_in, StaysOver, may_read_client, may_read_link, may_write_link, may_write_client, IsStuck, IsStuckClient, HoldsAll, OnlyToLink, OnlyToClient, ReadsClient, WritesLink, ReadsLink, WritesClient, LeavesSides, StopsLink, IsOnce, Waits}
 use Rattle.relay_model.proofs.Moving.{Writes, Gives}
 use Rattle.relay_model.proofs.Judging.{means}
 
@@ -32,13 +32,13 @@ or_none : (a b : Bool) → a ≡ false → b ≡ false → (a || b) ≡ false
 or_none true b e h = absurd (true≢false e)
 or_none false b e h = h
 
-any_kept : (f g : Flags) → Kept f g → any_over g ≡ false → any_over f ≡ false
+any_kept : (f g : Flags) → StaysOver f g → any_over g ≡ false → any_over f ≡ false
 any_kept f g k e =
     let a = or_false g.client_over (g.input_over || g.link_over) e in
     let b = or_false g.input_over g.link_over a.1 in
     or_none f.client_over (f.input_over || f.link_over) (k.client a.0) (or_none f.input_over f.link_over (k.input b.0) (k.link b.1))
 
-kept_same : (f : Flags) → Kept f f
+kept_same : (f : Flags) → StaysOver f f
 kept_same f = record { client = λ h. h; input = λ h. h; link = λ h. h }
 
 both_of : (a b : Bool) → (a && b) ≡ true → (a ≡ true) × (b ≡ true)
@@ -54,7 +54,7 @@ first_false a b c e h = (or_false a b (sym e ∙ h)).0
 second_false : (a b c : Bool) → c ≡ (a || b) → c ≡ false → b ≡ false
 second_false a b c e h = (or_false a b (sym e ∙ h)).1
 
-kept_link : (f g : Flags) (m : Moved) → g ≡ link_moved f m → Kept f g
+kept_link : (f g : Flags) (m : Moved) → g ≡ link_moved f m → StaysOver f g
 kept_link f g m e = record {
   client = λ h. sym (ap (λ (x : Flags). x.client_over) e) ∙ h;
   input = λ h. sym (ap (λ (x : Flags). x.input_over) e) ∙ h;
@@ -67,7 +67,7 @@ over_link f g m e h = second_false f.link_over (over_in m) g.link_over (ap (λ (
 over_any_link : (f g : Flags) (m : Moved) → g ≡ link_moved f m → any_over g ≡ false → over_in m ≡ false
 over_any_link f g m e h = over_link f g m e (or_false g.input_over g.link_over (or_false g.client_over (g.input_over || g.link_over) h).1).1
 
-kept_read : (f g : Flags) (m : Moved) → g ≡ client_read f m → Kept f g
+kept_read : (f g : Flags) (m : Moved) → g ≡ client_read f m → StaysOver f g
 kept_read f g m e = record {
   client = λ h. first_false f.client_over (is_fault m) g.client_over (ap (λ (x : Flags). x.client_over) e) h;
   input = λ h. first_false f.input_over (is_end m) g.input_over (ap (λ (x : Flags). x.input_over) e) h;
@@ -80,7 +80,7 @@ over_read f g m e h =
     let b = or_false g.input_over g.link_over a.1 in
     or_none (is_end m) (is_fault m) (second_false f.input_over (is_end m) g.input_over (ap (λ (x : Flags). x.input_over) e) b.0) (second_false f.client_over (is_fault m) g.client_over (ap (λ (x : Flags). x.client_over) e) a.0)
 
-kept_wrote : (f g : Flags) (m : Moved) → g ≡ client_wrote f m → Kept f g
+kept_wrote : (f g : Flags) (m : Moved) → g ≡ client_wrote f m → StaysOver f g
 kept_wrote f g m e = record {
   client = λ h. first_false f.client_over (over_in m) g.client_over (ap (λ (x : Flags). x.client_over) e) h;
   input = λ h. sym (ap (λ (x : Flags). x.input_over) e) ∙ h;
@@ -162,7 +162,7 @@ no_read_client ready v w c l g d f never = record {
   untouched = λ h. c;
   writes = ap (λ (x : ClientFacts). x.write_waits) c;
   once = omega (arith, ap (λ (x : ClientFacts). x.read_waits) c);
-  kept = subst (Kept v.flags) (sym f) (kept_same v.flags);
+  kept = subst (StaysOver v.flags) (sym f) (kept_same v.flags);
   over = λ h. refl;
   unfaulted = λ h. ap (λ (x : ClientFacts). x.faults) c;
   reads = λ x z h. absurd (never x z);
@@ -208,7 +208,7 @@ no_read_link ready v w c l g d h p f never = record {
   accepted = ap (λ (x : Standing). x.accepted) l;
   writes = ap (λ (x : Standing). x.write_waits) l;
   once = omega (arith, ap (λ (x : Standing). x.read_waits) l);
-  kept = subst (Kept v.flags) (sym f) (kept_same v.flags);
+  kept = subst (StaysOver v.flags) (sym f) (kept_same v.flags);
   over = λ x. refl;
   reads = λ x z y. absurd (never x z);
 }
@@ -344,7 +344,7 @@ reads_then_link r u v w m x o = record {
   untouched = λ h. o.client ∙ x.untouched h;
   writes = ap (λ (c : ClientFacts). c.write_waits) o.client ∙ x.writes;
   once = omega (arith, ap (λ (c : ClientFacts). c.read_waits) o.client, x.once);
-  kept = subst (Kept u.flags) (sym o.flags) x.kept;
+  kept = subst (StaysOver u.flags) (sym o.flags) x.kept;
   over = λ h. x.over (ap any_over (sym o.flags) ∙ h);
   unfaulted = λ h. ap (λ (c : ClientFacts). c.faults) o.client ∙ x.unfaulted (ap (λ (f : Flags). f.client_over) (sym o.flags) ∙ h);
   reads = λ a b h. ap (λ (c : ClientFacts). c.read_waits) o.client ∙ x.reads a b h;
@@ -361,7 +361,7 @@ reads_then_client r u v w m x o = record {
   accepted = ap (λ (c : Standing). c.accepted) o.link ∙ x.accepted;
   writes = ap (λ (c : Standing). c.write_waits) o.link ∙ x.writes;
   once = omega (arith, ap (λ (c : Standing). c.read_waits) o.link, x.once);
-  kept = subst (Kept u.flags) (sym o.flags) x.kept;
+  kept = subst (StaysOver u.flags) (sym o.flags) x.kept;
   over = λ h. x.over (ap any_over (sym o.flags) ∙ h);
   reads = λ a b h. ap (λ (c : Standing). c.read_waits) o.link ∙ x.reads a b h;
 }
@@ -398,7 +398,7 @@ not_ready : (ready more : Bool) → ready ≡ false → (ready && more) ≡ fals
 not_ready true more e = absurd (true≢false e)
 not_ready false more e = refl
 
-over_stays : (f g : Flags) → Kept f g → f.link_over ≡ true → g.link_over ≡ true
+over_stays : (f g : Flags) → StaysOver f g → f.link_over ≡ true → g.link_over ≡ true
 over_stays f g k h = by g.link_over refl
   where
     by : (o : Bool) → g.link_over ≡ o → g.link_over ≡ true

@@ -3,7 +3,7 @@ use Rattle.std.specs.Prelude.{◌≡◌, ◌⊎◌, ◌≢◌, ℕ, ◌+◌, ◌
 use Rattle.std.specs.List.{flat_map, AllByRecursion}
 use Rattle.disposal.specs.declared.Verdict.{Verdict}
 use Rattle.disposal.specs.Tallies.{verdict_of}
-use Rattle.param_track.specs.Kept.{Kept}
+use Rattle.param_track.specs.KeptReports.{KeptReport}
 use Rattle.frame_view.specs.declared.Side.{Side}
 use Rattle.frame_view.specs.declared.Side.TheVariants.{Client, Server}
 use Rattle.frame_view.specs.Frames.{AreBytes, FrameOf, IsFrame, spelling}
@@ -103,7 +103,7 @@ pub record Place : Type 0 where
   pub given : List ℕ
   pub faults : ℕ
   pub stands : Standing
-  pub reports : List Kept
+  pub reports : List KeptReport
   pub key : StartKeyOf
   pub number : ℕ
   pub started_at : ℕ
@@ -113,7 +113,7 @@ pub record Place : Type 0 where
   pub greeting : List ℕ
 
 -- the welcome of a link that keeps these reports, with the client's own key word
-abbrev pub greeting_of : List Kept → KeyWord → List ℕ
+abbrev pub greeting_of : List KeptReport → KeyWord → List ℕ
 greeting_of reports word = flat_map spelling (welcome_by reports word.pid word.secret)
 
 abbrev pub place : ClientFacts → LinkView → KeyWord → ℕ → Place

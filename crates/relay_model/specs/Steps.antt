@@ -24,7 +24,7 @@ abbrev pub over_in : Moved → Bool
 over_in m = is_end m || is_fault m
 
 -- what was over stays so
-pub record Kept (f g : Flags) : Type 0 where
+pub record StaysOver (f g : Flags) : Type 0 where
   pub client : g.client_over ≡ false → f.client_over ≡ false
   pub input : g.input_over ≡ false → f.input_over ≡ false
   pub link : g.link_over ≡ false → f.link_over ≡ false
@@ -80,7 +80,7 @@ pub record ReadsClient (ready : Bool) (v w : RelayView) (m : Moved) : Type 0 whe
   pub untouched : ready ≡ false → w.client ≡ v.client
   pub writes : w.client.write_waits ≡ v.client.write_waits
   pub once : w.client.read_waits ≤ v.client.read_waits + 1
-  pub kept : Kept v.flags w.flags
+  pub kept : StaysOver v.flags w.flags
   pub over : any_over w.flags ≡ false → over_in m ≡ false
   pub unfaulted : w.flags.client_over ≡ false → w.client.faults ≡ v.client.faults
   pub reads : may_read_client ready v ≡ true → HasRoom v.to_link → m ≡ NotNow → w.client.read_waits ≡ v.client.read_waits + 1
@@ -96,7 +96,7 @@ pub record WritesLink (ready : Bool) (v w : RelayView) (m : Moved) : Type 0 wher
   pub untouched : may_write_link ready v ≡ false → w.link ≡ v.link
   pub reads : w.link.read_waits ≡ v.link.read_waits
   pub once : w.link.write_waits ≤ v.link.write_waits + 1
-  pub kept : Kept v.flags w.flags
+  pub kept : StaysOver v.flags w.flags
   pub over : w.flags.link_over ≡ false → over_in m ≡ false
   pub still : m ≡ NotNow → w.to_link.held ≡ v.to_link.held
   pub writes : may_write_link ready v ≡ true → m ≡ NotNow → w.link.write_waits ≡ v.link.write_waits + 1
@@ -111,7 +111,7 @@ pub record ReadsLink (ready : Bool) (v w : RelayView) (m : Moved) : Type 0 where
   pub accepted : w.link.accepted ≡ v.link.accepted
   pub writes : w.link.write_waits ≡ v.link.write_waits
   pub once : w.link.read_waits ≤ v.link.read_waits + 1
-  pub kept : Kept v.flags w.flags
+  pub kept : StaysOver v.flags w.flags
   pub over : any_over w.flags ≡ false → over_in m ≡ false
   pub reads : may_read_link ready v ≡ true → HasRoom v.to_client → m ≡ NotNow → w.link.read_waits ≡ v.link.read_waits + 1
 
@@ -124,7 +124,7 @@ pub record WritesClient (ready : Bool) (v w : RelayView) (m : Moved) : Type 0 wh
   pub untouched : ready ≡ false → w.client ≡ v.client
   pub reads : w.client.read_waits ≡ v.client.read_waits
   pub once : w.client.write_waits ≤ v.client.write_waits + 1
-  pub kept : Kept v.flags w.flags
+  pub kept : StaysOver v.flags w.flags
   pub over : w.flags.client_over ≡ false → over_in m ≡ false
   pub unfaulted : w.flags.client_over ≡ false → w.client.faults ≡ v.client.faults
   pub still : m ≡ NotNow → is_quiet w ≡ is_quiet v

@@ -6,7 +6,7 @@ use Rattle.disposal.specs.declared.Verdict.{Verdict}
 use Rattle.disposal.specs.declared.Verdict.TheVariants as verdict
 use Rattle.disposal.specs.Traffics.{Sent, SendBegins, SendEnds, Got, GetBegins, GetEnds, Breaks}
 use Rattle.disposal.specs.Tallies.{Tally, Tells, send_begun, send_ended, got_begun, got_ended, got_broken}
-use Rattle.param_track.specs.Kept.{Kept}
+use Rattle.param_track.specs.KeptReports.{KeptReport}
 use Rattle.link_run.specs.Links.{after_frame}
 use Rattle.link_run.specs.Dialogues.{is_known}
 use Rattle.relay_flow.specs.Parts.{is_foreign, status_in}
@@ -16,9 +16,9 @@ use Rattle.relay_flow.specs.declared.flow.Passed.{Passed}
 -- what is kept of a lease: the counts, and the reports of the link
 pub record Told : Type 0 where
   pub tally : Tally
-  pub reports : List Kept
+  pub reports : List KeptReport
 
-abbrev pub told_of : Tally → List Kept → Told
+abbrev pub told_of : Tally → List KeptReport → Told
 told_of tally reports = record { tally = tally; reports = reports }
 
 -- ---- a frame of the client that went on
@@ -30,16 +30,16 @@ sent_as f = SendBegins f.kind ∷ SendEnds ∷ []
 
 -- A session that began with these reports may send it: it isn't one that no session sends (`foreign`), and if it is a
 -- ParameterStatus it can be read and names a parameter that the link's start reported.
-abbrev pub is_own : List Kept → Bool → FrameOf → Bool
+abbrev pub is_own : List KeptReport → Bool → FrameOf → Bool
 is_own kept true f = false
 is_own kept false f = is_known kept f
 
 -- what is kept of the reports then
-abbrev pub kept_after : List Kept → Bool → FrameOf → List Kept
+abbrev pub kept_after : List KeptReport → Bool → FrameOf → List KeptReport
 kept_after kept true f = kept
 kept_after kept false f = after_frame kept f
 
-abbrev pub all_kept : List Kept → List FrameOf → List Kept
+abbrev pub all_kept : List KeptReport → List FrameOf → List KeptReport
 all_kept kept [] = kept
 all_kept kept (f ∷ fs) = all_kept (kept_after kept (is_foreign f) f) fs
 
@@ -48,16 +48,16 @@ or_breaks true events = events
 or_breaks false events = Breaks ∷ events
 
 -- where no session sends it, something broke before its end
-abbrev pub came_as : List Kept → FrameOf → List Got
+abbrev pub came_as : List KeptReport → FrameOf → List Got
 came_as kept f = GetBegins f.kind ∷ or_breaks (is_own kept (is_foreign f) f) (GetEnds (status_in f) ∷ [])
 
-abbrev pub all_came : List Kept → List FrameOf → List Got
+abbrev pub all_came : List KeptReport → List FrameOf → List Got
 all_came kept [] = []
 all_came kept (f ∷ fs) = came_as kept f ++ all_came (kept_after kept (is_foreign f) f) fs
 
 -- At the borders of both directions, the counts tell of these frames, and the reports kept are those of the start (`kept`)
 -- and of these frames.
-pub record Telling (kept : List Kept) (t : Told) (sent arrived : List FrameOf) : Type 0 where
+pub record Telling (kept : List KeptReport) (t : Told) (sent arrived : List FrameOf) : Type 0 where
   pub sending : t.tally.is_sending ≡ false
   pub getting : t.tally.getting ≡ None
   pub tells : Tells t.tally (flat_map sent_as sent) (all_came kept arrived)
@@ -79,7 +79,7 @@ abbrev pub told_arrived : Passed → Bool → Tally → Tally
 told_arrived p own t = got_ended p.status (begun_arrived p own t)
 
 -- what is read of a frame that went on, the last of those that are held
-pub record IsRead (kept after : List Kept) (own : Bool) (f : FlowView) (p : Passed) : Type 0 where
+pub record IsRead (kept after : List KeptReport) (own : Bool) (f : FlowView) (p : Passed) : Type 0 where
   pub own_is : own ≡ is_own kept p.is_foreign (record { kind = p.kind; body = last_body f p.count })
   pub kept_is : after ≡ kept_after kept p.is_foreign (record { kind = p.kind; body = last_body f p.count })
 

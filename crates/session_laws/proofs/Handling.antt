@@ -29,13 +29,13 @@ use Rattle.session_laws.specs.Statements.{IsSpelled}
 use Rattle.session_laws.proofs.Spelled.{spelled, longer-some}
 use Rattle.session_laws.proofs.Lawful.{IsPlain, IsSendable, row-plain, IsRow, IsTable, IsSource, IsPrepared, IsPortal, IsCursor, IsSaved, Lawful, row-sendable, one-sendable, AreColumns, columns-plain, tag-plain, decimal-length}
 
-pub record Kept (s : State) (after : State) (sent : List FrameOf) : Type 0 where
+pub record StaysLawful (s : State) (after : State) (sent : List FrameOf) : Type 0 where
   pub lawful : Lawful after
   pub reported : after.reported ≡ s.reported
   pub plain : AllByRecursion IsPlain sent
 
 abbrev pub AllKept : State → Result Answer Cause → Type 0
-AllKept s (Ok a) = Kept s a.next a.replies
+AllKept s (Ok a) = StaysLawful s a.next a.replies
 AllKept s (Err c) = Unit {0}
 
 -- what a statement gives can be sent
@@ -46,12 +46,12 @@ IsOutcome (runs.Rows rows) = AllByRecursion IsSendable rows
 
 -- a run's state and notices, and what it gives
 abbrev pub IsRan : State → Ran → Type 0
-IsRan s r = Kept s r.after r.notices × IsOutcome r.outcome
+IsRan s r = StaysLawful s r.after r.notices × IsOutcome r.outcome
 
 abbrev pub RanKept : State → Result Ran Cause → Type 0
 RanKept s r = OfOk (IsRan s) r
 
-pub kept : (s after : State) (sent : List FrameOf) → Lawful after → after.reported ≡ s.reported → AllByRecursion IsPlain sent → Kept s after sent
+pub kept : (s after : State) (sent : List FrameOf) → Lawful after → after.reported ≡ s.reported → AllByRecursion IsPlain sent → StaysLawful s after sent
 kept s after sent l r p = record { lawful = l; reported = r; plain = p }
 
 pub made : (s : State) → AreSettings s.defaults → AreSettings s.current → AreReported s.reported → IsSaved s.saved → AllByRecursion IsPrepared s.statements → AllByRecursion IsPortal s.portals → AllByRecursion IsTable s.tables → AreSettings s.lasting → AllByRecursion IsCursor s.cursors → Lawful s

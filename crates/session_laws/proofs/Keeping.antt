@@ -28,7 +28,7 @@ use Rattle.session_values.proofs.Alls.{OfSome, all-append, all-map, all-filter, 
 use Rattle.session_laws.proofs.GoodValues.{AreSettings, IsGiven, OfOk, set-settings, reset-settings}
 use Rattle.session_laws.proofs.Spelled.{few-parameters}
 use Rattle.session_values.specs.Step.{query, query_ran, heading, without_unnamed}
-use Rattle.session_laws.proofs.Handling.{Kept, AllKept, IsOutcome, IsRan, RanKept, kept, made, bound-kept, Any, any, found-ok, IsRead, reading-read, usable-read, look_up-columns, read-table, selected-columns, rows-sent, shown-sent, rows-plain, row_tag-plain, given-plain, heading-plain}
+use Rattle.session_laws.proofs.Handling.{StaysLawful, AllKept, IsOutcome, IsRan, RanKept, kept, made, bound-kept, Any, any, found-ok, IsRead, reading-read, usable-read, look_up-columns, read-table, selected-columns, rows-sent, shown-sent, rows-plain, row_tag-plain, given-plain, heading-plain}
 use Rattle.session_laws.proofs.Lawful.{IsPlain, IsSendable, IsRow, IsTable, IsSource, AreLeft, IsPrepared, IsPortal, IsCursor, IsSaved, Lawful, AreColumns, columns-plain, oids-plain}
 
 -- ---- runs
@@ -278,11 +278,11 @@ oids_of-length (suc n) os = length-append (oids_of n os) (oid_at os n ∷ []) �
 oids_of-few : (n : ℕ) (os : List ℕ) → n ≤ 65535 → length (oids_of n os) ≤ 65535
 oids_of-few n os h = omega (arith, oids_of-length n os)
 
-choose-kept : (s : State) (b : Bool) (a : Answer) (c : Cause) → Kept s a.next a.replies → AllKept s (if b then Ok a else Err c)
+choose-kept : (s : State) (b : Bool) (a : Answer) (c : Cause) → StaysLawful s a.next a.replies → AllKept s (if b then Ok a else Err c)
 choose-kept s true a c h = h
 choose-kept s false a c h = tt
 
-pub close-kept : (s : State) (t : Target) → Lawful s → Kept s (close s t).next (close s t).replies
+pub close-kept : (s : State) (t : Target) → Lawful s → StaysLawful s (close s t).next (close s t).replies
 close-kept s (OfStatement n) h = kept s _ _ (made _ h.defaults h.current h.reported h.saved (all-filter IsPrepared (is_other prepared_name n) s.statements h.statements) (all-filter IsPortal (is_of_other n) s.portals h.portals) h.tables h.lasting h.cursors) refl ((omega arith, refl), tt)
 close-kept s (OfPortal n) h = kept s _ _ (with_portals-lawful s _ h (all-filter IsPortal (is_other portal_name n) s.portals h.portals)) refl ((omega arith, refl), tt)
 

@@ -28,7 +28,7 @@ use Rattle.session_laws.proofs.Bodies.{QueryTold, query-told, ParseTold, parse-t
 use Rattle.session_laws.proofs.Freshness.{fresh-begun, step-has_key}
 use Rattle.session_laws.proofs.GoodValues.{AreSettings, IsPair, OfOk, reported-settings, fresh-settings}
 use Rattle.session_laws.proofs.Lawful.{IsPlain, IsTable, IsSource, Lawful, lawful-table}
-use Rattle.session_laws.proofs.Handling.{Kept, AllKept, kept, made, bound-kept, Any, any}
+use Rattle.session_laws.proofs.Handling.{StaysLawful, AllKept, kept, made, bound-kept, Any, any}
 use Rattle.session_laws.proofs.Keeping.{commit-lawful, roll_back-lawful, roll_back-reported, without_unnamed-lawful, query-kept, parse-kept, bind-kept, describe-kept, close-kept, execute-kept}
 use Rattle.session_laws.proofs.Telling.{reports-are, report-frame, reports-tell, after-append}
 
@@ -50,7 +50,7 @@ after-plain : (vs : List Text) (fs : List FrameOf) → AllByRecursion IsPlain fs
 after-plain vs [] h = refl
 after-plain vs (f ∷ fs) h = let e = h.0.1 in rw e (after-plain vs fs h.1)
 
-pub kept-stepped : (s : State) (a : Answer) → Kept s a.next a.replies → Stepped s a
+pub kept-stepped : (s : State) (a : Answer) → StaysLawful s a.next a.replies → Stepped s a
 kept-stepped s a h = record {
   lawful = h.lawful;
   frames = all-as IsPlain (IsFrame Server MAX_FRAME) plain-frame a.replies h.plain;

@@ -80,7 +80,7 @@ fn all_at_progress(
 }
 
 /// The prepared statements, portals and cursors of a session. What copies hold is shared.
-pub(crate) struct Kept {
+pub(crate) struct SessionObjects {
     pub statements: Shared<Prepared>,
     /// Where this is false, a Query has no unnamed statement to look for.
     pub may_have_unnamed: bool,
@@ -88,9 +88,9 @@ pub(crate) struct Kept {
     pub cursors: Shared<Cursor>,
 }
 
-impl Drop for Kept {
+impl Drop for SessionObjects {
     fn drop(self) {
-        let Kept {
+        let SessionObjects {
             statements: _,
             may_have_unnamed: _,
             portals: _,
@@ -99,15 +99,15 @@ impl Drop for Kept {
     }
 }
 
-impl Kept {
+impl SessionObjects {
     /// None.
-    pub(crate) fn none(alloc: Global) -> Result<Kept, AllocError>
+    pub(crate) fn none(alloc: Global) -> Result<SessionObjects, AllocError>
         ensures statements { IfOk result (λ k. k.statements ≡ []) }
         ensures named { IfOk result (λ k. k.may_have_unnamed ≡ false) }
         ensures portals { IfOk result (λ k. k.portals ≡ []) }
         ensures cursors { IfOk result (λ k. k.cursors ≡ []) }
     {
-        Ok(Kept {
+        Ok(SessionObjects {
             statements: Shared::new(alloc)?,
             may_have_unnamed: false,
             portals: Shared::new(alloc)?,
@@ -116,10 +116,10 @@ impl Kept {
     }
 
     /// The same.
-    pub(crate) fn copied(&self) -> Result<Kept, AllocError>
+    pub(crate) fn copied(&self) -> Result<SessionObjects, AllocError>
         ensures { IfOk result (λ k. k ≡ self.now) }
     {
-        Ok(Kept {
+        Ok(SessionObjects {
             statements: self.statements.copied()?,
             may_have_unnamed: self.may_have_unnamed,
             portals: self.portals.copied()?,

@@ -6,7 +6,7 @@ ghost use Rattle.session_values.specs.State.{failing, held, is_held, restored, s
 ghost use Rattle.session_state.specs.Kept.{lasting_of};
 
 use crate::cursor::{Cursor, all_held, held_ones};
-use crate::kept::Kept;
+use crate::kept::SessionObjects;
 use crate::portal::{Portal, Prepared};
 use crate::work::{Saved, Work};
 use session_values::block::Block;
@@ -31,7 +31,7 @@ pub struct SessionState {
     pub(crate) block: Block,
     pub(crate) is_skipping: bool,
     pub(crate) has_ended: bool,
-    pub(crate) kept: Kept,
+    pub(crate) kept: SessionObjects,
 }
 
 impl Drop for SessionState {
@@ -90,7 +90,7 @@ impl SessionState {
             is_reported: true,
             work: Work::begun(alloc, &values)?,
             lasting: None,
-            kept: Kept::none(alloc)?,
+            kept: SessionObjects::none(alloc)?,
             defaults: values,
             saved: Saved::Nothing,
             block: Block::Outside,
@@ -284,7 +284,7 @@ impl SessionState {
         self.lasting = None;
         self.is_reported = false;
         self.saved = Saved::Nothing;
-        self.kept = Kept::none(alloc)?;
+        self.kept = SessionObjects::none(alloc)?;
         Ok(())
     }
 

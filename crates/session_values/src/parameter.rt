@@ -97,15 +97,15 @@ impl Parameter {
 }
 
 /// A word, and the value that is kept for it.
-type Kept = (&'static [u8], &'static [u8]);
+type Spelling = (&'static [u8], &'static [u8]);
 
-static ENCODINGS: [Kept; 3] = [
+static ENCODINGS: [Spelling; 3] = [
     (b"utf8", b"UTF8"),
     (b"unicode", b"UTF8"),
     (b"sqlascii", b"SQL_ASCII"),
 ];
 
-static DATE_STYLES: [Kept; 19] = [
+static DATE_STYLES: [Spelling; 19] = [
     (b"iso", b"ISO, MDY"),
     (b"iso,mdy", b"ISO, MDY"),
     (b"iso, mdy", b"ISO, MDY"),
@@ -127,14 +127,14 @@ static DATE_STYLES: [Kept; 19] = [
     (b"german, ymd", b"German, YMD"),
 ];
 
-static INTERVAL_STYLES: [Kept; 4] = [
+static INTERVAL_STYLES: [Spelling; 4] = [
     (b"postgres", b"postgres"),
     (b"postgres_verbose", b"postgres_verbose"),
     (b"sql_standard", b"sql_standard"),
     (b"iso_8601", b"iso_8601"),
 ];
 
-static SWITCHES: [Kept; 8] = [
+static SWITCHES: [Spelling; 8] = [
     (b"on", b"on"),
     (b"true", b"on"),
     (b"yes", b"on"),
@@ -146,7 +146,7 @@ static SWITCHES: [Kept; 8] = [
 ];
 
 /// The value that is kept for the first of these words that is the text.
-fn kept_for(words: &[Kept], text: &[u8]) -> Option<&'static [u8]>
+fn kept_for(words: &[Spelling], text: &[u8]) -> Option<&'static [u8]>
     ensures { option_map now_of result ≡ kept_for (map texts_of words.now) text.now }
 {
     for word in words {
@@ -181,7 +181,7 @@ fn encoding(alloc: Global, text: &[u8]) -> Result<Option<Text>, AllocError>
 
 /// The table of date styles.
 #[tactic(auto, unfolding(crate::specs::Parameters::date_styles))]
-fn date_styles() -> &'static [Kept]
+fn date_styles() -> &'static [Spelling]
     ensures { map texts_of result.now ≡ date_styles }
 {
     &DATE_STYLES

@@ -17,7 +17,7 @@ use Rattle.world_steps.specs.Links.Role.{Unborn, Promised, Lent, InReset, Clean,
 use Rattle.world_steps.specs.Relation.{AreRelated, CancelsFit, HasLentKey, IsOnItsWay, LeaseFits, MayBeLent, StrikeFits}
 use Rattle.world_steps.specs.Steps.{Asks, IsNewKey, gets_link, gone, promised, sets_out}
 use Rattle.world_steps.specs.Worlds.{AreTogether, HasAsked, Strike, World, put, with_book, with_link, with_pair}
-use Rattle.world_steps.proofs.Cancels.{ClientGoes, ClientKeeps, Everywhere, GoesOn, Kept, LinkKeeps, RoleGoes, all_marks_on, due_kept, due_on, fits_on, lease_kept, link_goes, same_client, same_link, strikes_change, strikes_kept}
+use Rattle.world_steps.proofs.Cancels.{ClientGoes, ClientKeeps, Everywhere, GoesOn, LendsNothingNew, LinkKeeps, RoleGoes, all_marks_on, due_kept, due_on, fits_on, lease_kept, link_goes, same_client, same_link, strikes_change, strikes_kept}
 use Rattle.world_steps.proofs.Cancels.RoleGoes.{comes_back, is_renewed, is_thrown}
 use Rattle.world_steps.proofs.Changes.{at_clean_point, in_phase, in_role}
 use Rattle.world_steps.proofs.Logins.{login_stopped}
@@ -44,7 +44,7 @@ put_other f k x i ne = put_case (λ z. z ≡ f i) f k x i (λ e. absurd (ne e)) 
 pub event_keeps : (w : World) (b : Book) → LendsNothing w.book b → CancelsFit w → CancelsFit (with_book w b)
 event_keeps w b n f =
     let v = with_book w b in
-    let k : Kept w v = record {
+    let k : LendsNothingNew w v = record {
       book = n;
       strikes = refl;
       links = λ l. (same_link (w.links l)).keeps;

@@ -162,7 +162,7 @@ together_on w v l m p q t = record {
 
 -- ---- where no link is lent or keyed, or may return, that wasn't, or mightn't, before
 
-pub record Kept (w v : World) : Type 0 where
+pub record LendsNothingNew (w v : World) : Type 0 where
   pub book : LendsNothing w.book v.book
   pub strikes : v.strikes ≡ w.strikes
   pub links : (l : ℕ) → LinkKeeps (w.links l) (v.links l)
@@ -173,7 +173,7 @@ pub record Kept (w v : World) : Type 0 where
 abbrev pub Everywhere : ℕ → Type 0
 Everywhere n = Unit {0}
 
-everywhere : (w v : World) → Kept w v → GoesOn w v Everywhere
+everywhere : (w v : World) → LendsNothingNew w v → GoesOn w v Everywhere
 everywhere w v k = record {
   lent = λ n key o h. k.book.lent n key h;
   may_return = λ n o m. k.book.may_return n m;
@@ -186,7 +186,7 @@ everywhere w v k = record {
 was_lent : (r : Role) (c : ℕ) → RoleGoes r (Lent c) → r ≡ Lent c
 was_lent r c stays = refl
 
-module _ (w v : World) (k : Kept w v) (f : CancelsFit w) where
+module _ (w v : World) (k : LendsNothingNew w v) (f : CancelsFit w) where
   pub due_on : (n : ℕ) (client : KeyView) → (w.links n).due ≡ Some client → StrikeFits v n client (v.links n).role × HasAsked v client
   due_on n client e = due_kept w v Everywhere (everywhere w v k) f n client tt e
 
@@ -212,7 +212,7 @@ module _ (w : World) (f : CancelsFit w) where
   client_keeps c x h =
       let v = with_client w c x in
       let all : (i : ℕ) → ClientStays (w.clients i) (put w.clients c x i) = put_all (λ i z. ClientStays (w.clients i) z) w.clients c x h (λ i _. same_client (w.clients i)) in
-      let k : Kept w v = record { book = lends_same w.book; strikes = refl; links = λ l. (same_link (w.links l)).keeps; lent_roles = f.lent_roles; clients = λ i. (all i).goes.keeps; starting = λ i. (all i).starting } in
+      let k : LendsNothingNew w v = record { book = lends_same w.book; strikes = refl; links = λ l. (same_link (w.links l)).keeps; lent_roles = f.lent_roles; clients = λ i. (all i).goes.keeps; starting = λ i. (all i).starting } in
       fits_on w v k f (all_marks_on w v (λ i. (all i).goes) f) (due_on w v k f)
 
   links_put_on : (l : ℕ) (y : Link) → LinkKeeps (w.links l) y → (i : ℕ) → LinkKeeps (w.links i) (put w.links l y i)
@@ -226,10 +226,10 @@ module _ (w : World) (f : CancelsFit w) where
 
   -- with cancels at servers that are told apart
   link_due : (l : ℕ) (y : Link) → LinkKeeps (w.links l) y → ((key : StartKeyOf) → HasLink l key w.book.lent → MayBeLent y.role) →
-      (Kept w (with_link w l y) → (n : ℕ) (client : KeyView) → (put w.links l y n).due ≡ Some client → StrikeFits (with_link w l y) n client (put w.links l y n).role × HasAsked (with_link w l y) client) → CancelsFit (with_link w l y)
+      (LendsNothingNew w (with_link w l y) → (n : ℕ) (client : KeyView) → (put w.links l y n).due ≡ Some client → StrikeFits (with_link w l y) n client (put w.links l y n).role × HasAsked (with_link w l y) client) → CancelsFit (with_link w l y)
   link_due l y h lent due =
       let v = with_link w l y in
-      let k : Kept w v = record { book = lends_same w.book; strikes = refl; links = links_put_on l y h; lent_roles = roles_put_on l y lent; clients = λ i. (same_client (w.clients i)).goes.keeps; starting = λ i own n e. e } in
+      let k : LendsNothingNew w v = record { book = lends_same w.book; strikes = refl; links = links_put_on l y h; lent_roles = roles_put_on l y lent; clients = λ i. (same_client (w.clients i)).goes.keeps; starting = λ i own n e. e } in
       fits_on w v k f (all_marks_on w v (λ i. (same_client (w.clients i)).goes) f) (due k)
 
   -- with a role in which it may not be lent
@@ -246,7 +246,7 @@ module _ (w : World) (f : CancelsFit w) where
       let v = with_pair w c x l y in
       let keeps : (i : ℕ) → ClientKeeps (w.clients i) (put w.clients c x i) = put_all (λ i z. ClientKeeps (w.clients i) z) w.clients c x h (λ i _. (same_client (w.clients i)).goes.keeps) in
       let on : (key : KeyView) → HasAsked w key → HasAsked v key = λ key a. asked_on w v key keeps a in
-      let k : Kept w v = record {
+      let k : LendsNothingNew w v = record {
         book = lends_same w.book;
         strikes = refl;
         links = links_put_on l y j.keeps;
@@ -324,7 +324,7 @@ strike_comes w l client f fit asked = link_due w f l (due_for (w.links l) client
     same : (i : ℕ) → ClientKeeps (w.clients i) (w.clients i)
     same i = (same_client (w.clients i)).goes.keeps
 
-    comes : Kept w (with_link w l (due_for (w.links l) client)) → (n : ℕ) (key : KeyView) → (put w.links l (due_for (w.links l) client) n).due ≡ Some key →
+    comes : LendsNothingNew w (with_link w l (due_for (w.links l) client)) → (n : ℕ) (key : KeyView) → (put w.links l (due_for (w.links l) client) n).due ≡ Some key →
         StrikeFits (with_link w l (due_for (w.links l) client)) n key (put w.links l (due_for (w.links l) client) n).role × HasAsked (with_link w l (due_for (w.links l) client)) key
     comes k n key =
         let v = with_link w l (due_for (w.links l) client) in

@@ -1,5 +1,5 @@
 use Rattle.std.proofs.Common.{◌≡◌, ◌+◌, ◌-◌, ◌≤◌, drop, length}
-use Rattle.param_track.specs.Kept.{place_of}
+use Rattle.param_track.specs.KeptReports.{place_of}
 use Rattle.param_track.proofs.reported.place_of.Given as goal
 
 abbrev pub invariant-loop-place : goal.invariant-loop-place

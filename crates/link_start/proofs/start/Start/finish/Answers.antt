@@ -3,7 +3,7 @@ use Rattle.frame_view.specs.declared.Side.TheVariants.{Server}
 use Rattle.frame_view.specs.Frames.{AreBytes, frames}
 use Rattle.message_view.specs.declared.ViewError.{ViewError}
 use Rattle.message_view.specs.declared.views.KeyView.{KeyView}
-use Rattle.param_track.specs.Kept.{Kept}
+use Rattle.param_track.specs.KeptReports.{KeptReport}
 use Rattle.link_start.specs.declared.start_reply.TakeReportError.{TakeReportError}
 use Rattle.link_run.specs.Dialogues.{keyed_all, reported_all}
 use Rattle.link_start.specs.StartReply.{Takes}
@@ -11,7 +11,7 @@ use Rattle.link_start.specs.Starts.{StartView, IsDone, IsDoneFrom, IsOwnKey}
 use Rattle.link_start.proofs.Starting.{started_clean, unreported_cause, unkeyed_cause, own_key}
 use Rattle.link_start.proofs.start.Start.finish.Goals as goal
 
-abbrev reported : List Kept → List ℕ → Option (List Kept)
+abbrev reported : List KeptReport → List ℕ → Option (List KeptReport)
 reported kept bytes = reported_all kept (frames Server 65536 bytes).frames
 
 abbrev keyed : List ℕ → Result (Option KeyView) ViewError
