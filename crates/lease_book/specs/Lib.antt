@@ -1,4 +1,3 @@
 pub mod Histories
 pub mod Links
 pub mod Shown
-pub mod Kinds

@@ -11,6 +11,8 @@ use Rattle.book_model.specs.Replay.{Decision, History}
 use Rattle.book_model.specs.declared.events.Reply.{Reply}
 use Rattle.book_model.specs.declared.events.Reply.TheVariants.{Arrived, Queued, Lend, Start, Close, Refuse, Done, Stranger, Strike, Nobody, Reset, Dispose}
 use Rattle.pool_figures.specs.declared.decisions.DecisionSeen.{DecisionSeen}
+use Rattle.lease_book.specs.declared.event_kinds.EventKind.{EventKind}
+use Rattle.lease_book.specs.declared.event_kinds.EventKind.TheVariants as kind
 
 -- its number and pass; the event, and the number that it names; the reply, and the number that that names
 pub record Shown : Type 0 where
@@ -24,6 +26,26 @@ pub record Shown : Type 0 where
 -- as the program says it
 unfoldable pub as_shown : DecisionSeen → Shown
 as_shown d = record { number = d.number; pass = d.pass; event = d.event.now; names = d.of; reply = d.reply.now; answers = d.to }
+
+-- what events of a kind are called
+abbrev pub kind_name : EventKind → List ℕ
+kind_name kind.Arrive = codes "arrive"
+kind_name kind.Ask = codes "ask"
+kind_name kind.Take = codes "take"
+kind_name kind.GiveBack = codes "give_back"
+kind_name kind.Lost = codes "lost"
+kind_name kind.StartFailed = codes "start_failed"
+kind_name kind.Leave = codes "leave"
+kind_name kind.Tick = codes "tick"
+kind_name kind.Limits = codes "limits"
+kind_name kind.Pause = codes "pause"
+kind_name kind.Resume = codes "resume"
+kind_name kind.Shutdown = codes "shutdown"
+kind_name kind.Reconnect = codes "reconnect"
+kind_name kind.Keyed = codes "keyed"
+kind_name kind.Cancel = codes "cancel"
+kind_name kind.EndLease = codes "end_lease"
+kind_name kind.HungUp = codes "hung_up"
 
 abbrev pub change_name : Change → List ℕ
 change_name (NewLimits limits) = codes "limits"

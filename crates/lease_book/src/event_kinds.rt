@@ -1,8 +1,7 @@
 //! The kinds by which events are shown.
 ghost use Rattle.std.specs.Prelude.{◌≡◌};
 ghost use Rattle.book_model.specs.Events.{change_of, event_of};
-ghost use Rattle.lease_book.specs.Kinds.{kind_name};
-ghost use Rattle.lease_book.specs.Shown.{change_name, event_name};
+ghost use Rattle.lease_book.specs.Shown.{change_name, event_name, kind_name};
 
 use book_model::events::{Change, Event};
 

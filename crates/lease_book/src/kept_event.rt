@@ -40,8 +40,7 @@ pub struct KeptEvent {
 impl Model for KeptEvent {
     ghost use Rattle.std.specs.Prelude.{◌≡◌};
     ghost use Rattle.book_model.specs.Outcomes.{Event};
-    ghost use Rattle.lease_book.specs.Kinds.{kind_name};
-    ghost use Rattle.lease_book.specs.Shown.{event_name, event_number};
+    ghost use Rattle.lease_book.specs.Shown.{event_name, event_number, kind_name};
 
     ghost Value = { Event };
 
