@@ -15,7 +15,7 @@ use crate::steps::{Authenticated, LoginRefusal, LoginStep, Question};
 use frame_view::client::{PASSWORD_MESSAGE, TERMINATE};
 use frame_view::{FirstStep, FrameError, MAX_FIRST_PACKET, Side, Step, first_packet, next_frame};
 use ini_config::{AuthType, Settings};
-use message_view::{KeyWord, PasswordView, Refusal, StartupView};
+use message_view::{AUTHENTICATION_OK, KeyWord, PasswordView, Refusal, StartupView};
 use param_track::{StartKeyError, start_key, unsupported_name};
 use scram::Message;
 use start_keys::StartKey;
@@ -186,7 +186,7 @@ fn let_in(proof: Option<Box<Message>>) -> Authenticated
 {
     match proof {
         Some(mut frames) => {
-            frames.push(b"R\0\0\0\x08\0\0\0\0");
+            frames.push(&AUTHENTICATION_OK[..]);
             Authenticated::WithProof(frames)
         }
         None => Authenticated::Ok,

@@ -2,7 +2,7 @@
 ghost use Rattle.std.specs.Prelude.{◌≡◌};
 ghost use Rattle.login_core.specs.Logins as spec;
 
-use message_view::Refusal;
+use message_view::{AUTHENTICATION_OK, Refusal};
 use scram::Message;
 use start_keys::StartKey;
 use std::sync::Arc;
@@ -55,7 +55,7 @@ impl Authenticated {
     {
         match self {
             Authenticated::Nothing => b"",
-            Authenticated::Ok => b"R\0\0\0\x08\0\0\0\0",
+            Authenticated::Ok => &AUTHENTICATION_OK[..],
             Authenticated::WithProof(frames) => frames.as_bytes(),
         }
     }

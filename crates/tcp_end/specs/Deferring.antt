@@ -2,7 +2,7 @@
 use Rattle.std.specs.Prelude.{ℕ, ◌-◌, ◌==◌, Bool, false, nat_lt, if◌then◌else◌, List, drop}
 use Rattle.server_end.specs.declared.Moved.{Moved}
 use Rattle.server_end.specs.declared.Moved.TheVariants.{Count, NotNow, Ended, Fault}
-use Rattle.tcp_end.specs.declared.deferred.TheConstants.{AUTHENTICATION_OK}
+use Rattle.message_view.specs.declared.writers.TheConstants.{AUTHENTICATION_OK}
 
 pub record DeferredOf : Type 0 where
   -- it was given

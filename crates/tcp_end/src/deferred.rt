@@ -1,15 +1,14 @@
-//! AuthenticationOk of a client's end, which goes out with what follows it.
+//! AuthenticationOk of a client's end, which goes out with what follows it: a client waits for that in any case, so the two in one call spare
+//! a call of the system and a wake of the client for each connection.
 ghost use Rattle.std.specs.Prelude.{◌≡◌, ◌+◌, ◌≤◌, ◌++◌, false, length, take, true};
 ghost use Rattle.tcp_end.specs.Deferring as spec;
 ghost use Rattle.tcp_end.specs.Deferring.{new_deferred};
-ghost use Rattle.tcp_end.specs.declared.deferred.TheConstants.{AUTHENTICATION_OK, PACKET};
+ghost use Rattle.message_view.specs.declared.writers.TheConstants.{AUTHENTICATION_OK};
+ghost use Rattle.tcp_end.specs.declared.deferred.TheConstants.{PACKET};
 
+use message_view::AUTHENTICATION_OK;
 use server_end::Moved;
 use std::marker::Model;
-
-/// The message that lets a client in (PostgreSQL manual, "Message Formats", AuthenticationOk). A client waits for what follows it in any
-/// case, so the two in one call spare a call of the system and a wake of the client for each connection.
-pub(crate) const AUTHENTICATION_OK: [u8; 9] = [b'R', 0, 0, 0, 8, 0, 0, 0, 0];
 
 /// So many bytes go out in one call while some are held: most welcomes have fewer.
 pub(crate) const PACKET: usize = 512;

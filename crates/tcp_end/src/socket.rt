@@ -4,7 +4,7 @@ ghost use Rattle.std.specs.Io.KnownBytes.{Consumes};
 ghost use Rattle.server_end.specs.Moves.{IsWithin, moved};
 ghost use Rattle.tcp_end.specs.Connections as spec;
 ghost use Rattle.tcp_end.specs.Reading.{IsFilled, to_come};
-ghost use Rattle.tcp_end.specs.declared.deferred.TheConstants.{AUTHENTICATION_OK};
+ghost use Rattle.message_view.specs.declared.writers.TheConstants.{AUTHENTICATION_OK};
 ghost use Rattle.server_end.specs.declared.Moved.TheVariants.{Ended};
 
 use crate::ahead::{AHEAD, Ahead};
