@@ -1,5 +1,6 @@
-//! Tests of the files that the pooler reads, of their lines and of what shows of a secret; of the command line and `replay`; of what
-//! the console answers; and of the lines of the log.
+//! Tests of the files that the pooler reads, of their lines and of what shows of a secret (`ini_config`, `user_file`, `text_lines`,
+//! `settings_check`); of the command line and `replay` (`pool_app`, `replay_run`); of what the console answers (`console_core`); and of
+//! the lines of the log (`log_lines`).
 #![tactic(auto)]
 
 #[cfg(test)]

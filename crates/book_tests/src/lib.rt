@@ -1,4 +1,5 @@
-//! Tests of the lease book, over links whose servers have gone.
+//! Tests of the lease book (`lease_book`), over links whose servers have gone: what it answers, and what it keeps and shows of itself.
+//! Public: `book_parts`, for `desk_tests`.
 #![tactic(auto)]
 
 #[cfg(test)]

@@ -1,4 +1,5 @@
-//! Tests of the desk that lends by the lease book, over links whose servers have gone.
+//! Tests of the desk that lends by the lease book (`pool_desk`, with the passes of `desk_tallies`), over links whose servers have gone:
+//! its answers one after the other, and clients that wait there in threads.
 #![tactic(auto)]
 
 #[cfg(test)]

@@ -1,4 +1,8 @@
 //! Keepalives of TCP connections.
+//!
+//! Public: `Keepalive`, which `pool_run` makes of the settings, and its `keep`, by which `tcp_reach` sets it on connections to servers
+//! and `tcp_listen` on listeners; `tcp_end` hands it on. The bytes of an option's value are proved; of `keep` no contract says anything,
+//! so which options it sets, and in which order, is free to change.
 #![tactic(auto)]
 
 ghost use Rattle.std.specs.Prelude.{◌≡◌};

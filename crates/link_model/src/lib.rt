@@ -1,5 +1,10 @@
 //! What a link is, by definitions alone: the server behind it from its StartupMessage on, the moves of bytes over its end, and
 //! what a lease of it keeps. The laws are contracts of functions that do nothing.
+//!
+//! Public: twelve laws, of which `stub_server` calls `futures_stay` and nothing calls the others, and the definitions, above all
+//! `Standing`, `ClientFacts` and `Moves`, in which the traits of `server_end` are written: so whatever has an end, a link or a lease
+//! stands on them. Nothing is there at run time. The proofs are free to change, but for the lemmas that crates above cite (`Both`,
+//! `ByName`, `InSession`, `Splits`).
 #![tactic(auto)]
 
 ghost use Rattle.link_model.specs.Dialogues.{StartPacketsSplit, StartRepliesAreFrames, StartedIsFresh, StartsAreTold};

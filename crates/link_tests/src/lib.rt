@@ -1,5 +1,5 @@
-//! Tests of links over ends in memory (`link_start`, `link_run`), of leases of one link by `relay_core`, and of a client's whole service
-//! over a link of its own (`memory_lease`).
+//! Tests of links over ends in memory (`link_start`, `link_run`), of leases of one link by `relay_core`, of a client's whole service over
+//! a link of its own (`memory_lease`), and of what a user's credential makes of a server's challenge (`credentials`).
 #![tactic(auto)]
 
 #[cfg(test)]

@@ -1,4 +1,9 @@
 //! Laws by which links to ends begin, the contracts of functions that do nothing.
+//!
+//! Public: `memory_servers_can_start`, which `memory_pool`, `memory_dial`, `oom_probe` and `link_tests` call of their stand-in servers;
+//! `unfollowed_starts_are_clean`, by which `trials`, `oom_probe`, `book_tests` and `link_tests` have links that no server was started
+//! behind. The two laws of servers that ask for SCRAM are there for the law alone: no stand-in server asks so. The proofs alone are free
+//! to change.
 #![tactic(auto)]
 
 ghost use Rattle.memory_start_laws.specs.Scram.{ScramServersCanStart, ScramServersLetIn};

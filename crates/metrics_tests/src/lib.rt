@@ -1,4 +1,5 @@
-//! Tests of metrics: the text whole, worked out by hand; requests and their responses; and the serving of them over the loopback network.
+//! Tests of metrics: the text whole, worked out by hand (`metrics_text`); requests and their responses, and the serving of them over the
+//! loopback network (`metrics_http`).
 #![tactic(auto)]
 
 #[cfg(test)]

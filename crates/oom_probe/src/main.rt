@@ -1,5 +1,9 @@
 //! A tool for this repository's tests: what takes memory is asked once more where a growth of it is refused, and what the refusal left is
 //! looked at. So the answer of a run in which one growth is refused is that of a run in which none is, or the run is out of memory.
+//!
+//! Nothing is public, it isn't installed, and nothing is proved of it but its safety, and that its key and its server can start a link.
+//! `tests/program/refuse-growth.sh` runs it with the word of each of its `kinds`, and compares one run with another: so what it tells is
+//! free to change, but not those words, nor how it ends where memory was refused.
 #![tactic(auto)]
 
 mod book;

@@ -1,4 +1,8 @@
-//! The program `pgsess`.
+//! The program `pgsess`: it reads its words, does the job that they name, and ends with the status of what came of that.
+//!
+//! Nothing is public. The jobs themselves are below: `pool_run` serves, `replay_run` replays, `stub_server` is the stand-in server, and
+//! `pool_app` reads words and files and tells faults. The contracts here say which status the program ends with. Where it listens, and
+//! what becomes of the file of its Unix socket, tests of the program alone show.
 #![tactic(auto)]
 
 ghost use Rattle.std.specs.Prelude.{◌≡◌};

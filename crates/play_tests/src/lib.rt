@@ -1,4 +1,5 @@
-//! Tests of several clients over ends in memory, on one thread.
+//! Tests of several clients over ends in memory, on one thread (`play`). Public: `files`, which `pool_tests` and `serving_parts` have
+//! their settings, users and catalogue from, and `play_parts`, for StartupMessages of `serving_parts`.
 #![tactic(auto)]
 
 #[cfg(test)]

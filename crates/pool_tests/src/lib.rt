@@ -1,4 +1,5 @@
-//! Tests of workers that serve clients over one desk at the same time, over ends in memory.
+//! Tests of workers that serve clients over one desk at the same time, over ends in memory (`pool_serve` over `pool_desk`, by
+//! `memory_dial`): two at once, one after the other, cancels, and ends that fail. Public: `worker_parts`, for `serving_parts`.
 #![tactic(auto)]
 
 #[cfg(test)]

@@ -1,4 +1,5 @@
-//! What a worker tells a client that it refuses or closes, and what becomes of its link: rows of all such ends.
+//! What a worker (`pool_serve`) tells a client that it refuses or closes, and what becomes of its link: rows of all such ends, to which
+//! `serving_parts` holds workers; and who is let in where as many clients are there as may be.
 #![tactic(auto)]
 
 #[cfg(test)]

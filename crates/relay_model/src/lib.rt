@@ -4,6 +4,10 @@
 //! What follows from it are the laws here, contracts of functions that do nothing. That each move keeps it, and that reads, writes
 //! and answers are what they are said to be, are lemmas in `proofs/`, which the relay's code cites. The types are those that the
 //! definitions name.
+//!
+//! Public: the types, for `relay_core`, of which `pool_serve` and `play` have `Next` too; `leases_are_allowed`, which `pool_serve` calls.
+//! The other three laws nothing calls. `relay_core`, `pool_serve`, `play` and `wire_laws` cite the definitions: whoever changes `IsLease`
+//! or `judged` changes what a lease promises. Nothing but the types is there at run time, and nothing but the proofs is free to change.
 #![tactic(auto)]
 
 ghost use Rattle.relay_model.specs.Laws.{LeasesAreAllowed, LeasesAreExact, SettledLinksAreUsed, UntouchedLinksAreClean};

@@ -1,5 +1,6 @@
-//! Tests over the loopback network: of `tcp_end`, and of the running program's parts: the pool, the stand-in server, their key words
-//! and threads, and the thread that writes the log.
+//! Tests over the loopback network: of TCP connections as ends, their gates, notes and listeners (`tcp_end`, `tcp_notes`, `tcp_listen`,
+//! `tcp_reach`), and of the running program's parts: the pool (`pool_run`), the stand-in server (`stub_server`), their key words
+//! (`key_source`) and threads (`worker_threads`), and the thread that writes the log (`log_writer`).
 #![tactic(auto)]
 
 #[cfg(test)]

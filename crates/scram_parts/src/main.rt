@@ -1,5 +1,8 @@
 //! A tool for this repository's tests: what `scram` and `sasl_prep` answer to the lines on standard input, in a line for each. The first
 //! word of a line says what is asked; the others are bytes in hex, with one space between.
+//!
+//! Nothing is public, it isn't installed, and nothing is proved of it but its safety. `tests/program/scram.py` compares its lines with
+//! what Python's libraries make of the same, so the lines and that script change together; all else is free to change.
 #![tactic(auto)]
 
 mod answers;

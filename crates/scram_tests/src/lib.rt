@@ -1,5 +1,5 @@
-//! Tests of SCRAM and of how passwords are prepared for it: vectors of RFCs, an exchange whole, what PostgreSQL made of passwords, and
-//! what isn't read.
+//! Tests of SCRAM (`scram`) and of how passwords are prepared for it (`sasl_prep`): vectors of RFCs, an exchange whole, what PostgreSQL
+//! made of passwords, and what isn't read.
 #![tactic(auto)]
 
 #[cfg(test)]

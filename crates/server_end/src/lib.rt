@@ -1,4 +1,10 @@
-//! The two ends of a lease, as traits whose ghost member says where an end stands.
+//! The two ends of a lease, as traits whose ghost member says where an end stands, and the gate where a worker waits for their bytes.
+//!
+//! Public: `ServerEnd`, `ClientEnd` and `Gate`, over any of which links, logins, relays and workers are proved; `memory_ends`,
+//! `memory_lease`, `paced_client`, `act_client`, `tcp_end`, `trials` and crates of tests have ends of their own. Whoever changes a clause
+//! changes what all of them are proved over. `Transcript` and `TurnCount` are there for the law: what notes in them does nothing at run
+//! time. No clause says how long a turn waits, nor more of `limit`, `know`, `tell`, `watch` and `unwatch` than that they take no turn and
+//! leave ends as they stand: each gate is free in that.
 #![tactic(auto)]
 
 pub mod gate;

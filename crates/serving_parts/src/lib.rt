@@ -1,5 +1,9 @@
-//! The ends that a client's time with a worker can have: rows of who comes, of what stands behind the desk and of what comes of it, and how
-//! workers are held to a row; and who is let in where many are there. The tests above have the rows.
+//! The ends that a client's time with a worker can have: rows of who comes, of what stands behind the desk and of what comes of it, and
+//! how workers are held to a row; and who is let in where many are there. The tests above, `refusing_tests` and `serving_tests`, have the
+//! rows.
+//!
+//! Public: rows and their parts, with `first_departure`, which tells where workers depart from them, and `Crowd` with `is_next_told`;
+//! those two crates alone call them. It tests nothing itself: workers (`pool_serve`) are run by what `pool_tests` shares.
 #![tactic(auto)]
 
 mod crowds;

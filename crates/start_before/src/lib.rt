@@ -1,4 +1,7 @@
-//! The law of servers that ask one question at most.
+//! The law of servers that ask one question at most: they answer as by a shorter definition, in which nothing is asked in rounds.
+//!
+//! Public: `starts_are_as_before`, the contract of a function that does nothing, and that definition of a server from its StartupMessage
+//! on. Both are there for the law alone: nothing calls or cites them, and no crate stands on this one. The proof is free to change.
 #![tactic(auto)]
 
 ghost use Rattle.start_before.specs.Before.{StartsAreAsBefore};

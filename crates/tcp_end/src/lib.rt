@@ -1,5 +1,10 @@
 //! A TCP connection as an end of a lease, and the gate at which a worker waits for the bytes of two such ends.
 //!
+//! Public: `TcpEnd`, `GatePoll` and `TcpGate`, for `pool_run` and `stub_server`; `dial`, by which `pool_run` reaches servers; `IdlePoll`
+//! and `Minder`, by which its clock hears of idle links. `tcp_listen` makes the ends of clients. `Destination`, and the bytes behind an
+//! end's counts, are there for the law. Free to change: which calls of the system are spared and how long a turn waits, of which no
+//! contract of a `TcpEnd` or a `TcpGate` speaks: a try that is left out counts as one that came to nothing.
+//!
 //! What readiness is remembered, and why. The system tells of a connection only when it changes (an edge), so bytes that were
 //! there before, and weren't all read, are told of no more. An end therefore notes of each read whether it may have left more, and of
 //! each read and write whether a further one would come to nothing until the next edge: that one isn't tried. A [`gate::TcpGate`] that

@@ -1,5 +1,9 @@
 //! A tool for this repository's tests and measurements: a login fed with its bytes in pieces, what a session alone answers, what a lease
 //! gives; rows through a relay, and events and seconds of a lease book.
+//!
+//! Nothing is public, it isn't installed, and nothing is proved of it but its safety. Scripts of `tests/program` and `bench` run it by
+//! the words of `job` and read what it prints, so these change together; all else is free to change. The clauses of its ends (`rows`,
+//! `links`) are there so that a link over them is a clean one without a start.
 #![tactic(auto)]
 
 mod book;

@@ -1,5 +1,8 @@
 //! A tool for this repository's tests: the parts of the messages on standard input, as the views of `message_view` read them, in a line
 //! for each; what a view doesn't read is told by the name of its fault.
+//!
+//! Nothing is public, it isn't installed, and nothing is proved of it but its safety. `tests/program/views.py` compares its lines with
+//! those of a plain reader, so the lines and that script change together; all else is free to change.
 #![tactic(auto)]
 
 mod lines;

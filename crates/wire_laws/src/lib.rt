@@ -1,4 +1,8 @@
 //! Laws of how much is kept of what goes over a link, contracts of functions that do nothing.
+//!
+//! Public: `sizes_are`, which states the bounds of `relay_flow`, `link_run` and `param_track` as numbers, and `idle_has_room`. They are
+//! there for the law alone: nothing calls them, and no crate stands on this one. Whoever changes one of those constants changes
+//! `AreSizes` with it.
 #![tactic(auto)]
 
 ghost use Rattle.wire_laws.specs.Sizes.{AreSizes, IdleHasRoom};
