@@ -7,6 +7,11 @@
 //! may still run.
 //!
 //! Nothing here takes memory.
+//!
+//! Public: `Traffic`, of which each relay of `relay_core` has one, and `Verdict`, by which `relay_core` says what a link is worth and
+//! `pool_serve` why it is closed. Contracts see a `Tally` and the two lists that it tells of (`Traffics`), which `relay_model` cites.
+//! `laws` does nothing: `relay_core` calls `calls_tell` and `settled_exactly`, `relay_model` the second; its other two are called by
+//! nobody. Free to change: how the parts of a tally are kept.
 #![tactic(auto)]
 
 pub mod laws;

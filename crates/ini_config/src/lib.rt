@@ -1,4 +1,10 @@
 //! The settings file of the pooler: an ini file as PgBouncer has it, read whole or refused by the first faulty line.
+//!
+//! Public: `read_settings`, for `pool_app` and `replay_run`; `Settings` and what it has (`Rows`, `DbRow`, `Names`, `AuthType`,
+//! `ConsoleStyle`), by which the book (`book_model`), the login (`param_track`, `login_core`), the console and the running pool go; for
+//! `settings_check`, which goes on after a fault, `Reading`, `read_line`, `takes_item` and `IniCause`; for `param_track`
+//! `is_always_followed`. `laws` does nothing: its one function, that what was read is within its bounds, is called by `pool_app`. Free to
+//! change: how rows are found by name, and how the keys that a file has given are kept.
 #![tactic(auto)]
 
 mod always_followed;

@@ -1,4 +1,9 @@
 //! The key words of a pooler's clients, out of a seed.
+//!
+//! Public: `KeySource`, of which `pool_run` has one, for a key word of each client. Its contracts say which words a seed gives
+//! (`KeyWords`); `pool_run` cites of them that its source is that of its seed and `peer_id`. Free to change, with the definition: how a
+//! word is made of the stream, but for a peer's number, which stays the first byte of its pids, since what stands before several poolers
+//! tells by it to which of them a cancel goes.
 #![tactic(auto)]
 
 ghost use Rattle.std.specs.Prelude.{◌≡◌};

@@ -82,9 +82,10 @@ pub enum StartCause {
     /// isn't known; or for any of them where it is no secret; or for a password with a zero byte in it. What stands behind it isn't looked
     /// at.
     Unanswerable(ServerQuestion),
-    /// Something else was answered, so a challenge that doesn't continue our nonce or is salted otherwise than our verifier, another proof
-    /// than the server's own, or AuthenticationOk before that; a report or the server's key can't be read, more than 64 names were reported, a frame is longer
-    /// than [`link_run::reply::MAX_REPLY`], or more than [`MAX_WELCOME`] bytes came and the answer isn't whole.
+    /// Something else was answered, so a challenge that doesn't continue the client's nonce or is salted otherwise than the user's verifier,
+    /// another proof than the server's own, or AuthenticationOk before that; a report or the server's key can't be read, more than 64 names
+    /// were reported, a frame is longer than [`link_run::reply::MAX_REPLY`], or more than [`MAX_WELCOME`] bytes came and the answer isn't
+    /// whole.
     Unexpected,
     /// An allocation failed, or the key has no StartupMessage of the greatest length.
     Memory,

@@ -1,5 +1,6 @@
-//! The text that Prometheus scrapes (OpenMetrics 1.0), as a function of a lease book's view and of what is known beside it. It has the names of
-//! prometheus-community's pgbouncer_exporter for what PgBouncer has too, and names of its own for the rest. It does nothing itself.
+//! The text that Prometheus scrapes (OpenMetrics 1.0), as a function of a lease book's view and of what is known beside it. It has the
+//! names of prometheus-community's pgbouncer_exporter for what PgBouncer has too, and names of its own for the rest. It does nothing
+//! itself.
 //!
 //! Public: `put_metrics`, for `pool_run`, and `labels_tell`, which does nothing and is there for the law. Free to change: in which order
 //! families are put together.

@@ -1,4 +1,8 @@
 //! The keys of PgBouncer that the settings read over: what they ask for is done without them, or isn't asked for at their value.
+//!
+//! Public: `is_read_over`, for `ini_config`, which accepts such a key, and for `settings_check`, which tells of it; and
+//! `is_read_over_in_row`, for `ini_config`. Which keys these are is in the contracts (`ReadOver`), which proofs of `replay_run` cite too.
+//! Free to change: how the lists are searched.
 #![tactic(auto)]
 
 ghost use Rattle.std.specs.Prelude.{◌≡◌, ◌&&◌, bytes_eq};

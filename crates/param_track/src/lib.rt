@@ -1,5 +1,11 @@
-//! Start keys: which database, user and parameters a client asks for, and so which links it may be lent. And
-//! what a link's server reported of its parameters.
+//! Start keys: which database, user and parameters a client asks for, and so which links it may be lent. And what a link's server
+//! reported of its parameters.
+//!
+//! Public: `start_key` and `unsupported_name`, for `login_core`; and `Reported`, which `link_start` fills, `link_run` keeps with each
+//! link, and which `relay_core`, in a lease, and `link_run`, in the reset, tell of later reports. The definitions (`StartKeys`,
+//! `Reports`, `KeptReports`) are cited by `login_core`, `link_start` and `link_run`, by `relay_model`, `login_laws` and `login_before`,
+//! and by `world_story`. `laws` does nothing, and nobody calls it: it says that what a `Reported` keeps tells of all reports. Free to
+//! change: how a report is found by its name.
 #![tactic(auto)]
 
 mod key;

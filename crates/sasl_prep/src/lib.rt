@@ -1,4 +1,7 @@
 //! SASLprep (RFC 4013), as PostgreSQL prepares passwords for SCRAM: differently typed forms of one password give the same bytes.
+//!
+//! Public: `prepared`, which `user_file` calls before it salts a password; definitions of `user_file` and `credentials` cite what it
+//! makes of a password (`Prepared`). Free to change: how the tables are searched.
 #![tactic(auto)]
 
 ghost use Rattle.std.specs.Prelude.{◌≡◌, IfOk, MatchOption, chars, encode_utf8_all, false, option_copied, option_map, string_bytes, true};

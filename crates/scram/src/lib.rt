@@ -12,6 +12,11 @@
 //!
 //! A proof is judged by comparing two vectors of 32 bytes, with no branch on any of them. That this takes the same time wherever they
 //! differ rests on the compiler and the processor, and isn't proved.
+//!
+//! Public: for `user_file` verifiers and keys (`Verifier`, `Salt`, `ServerKeys`, `salted`); for `login_core` the server's role
+//! (`initial_response`, `First`, `Last`, `challenge_message`, `final_message`); for `credentials` the client's (`first_message`,
+//! `Challenge`, `ClientKeys`, `last_unproved`, `last_message`); `nonce` for both; and `hmac`, by which `pool_run` makes the key of the
+//! salts. `login_laws` cites the definitions too. Free to change: how HMAC's blocks are kept, and how texts are taken apart.
 #![tactic(auto)]
 
 pub mod client_messages;

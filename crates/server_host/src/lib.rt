@@ -1,4 +1,8 @@
-//! A server's host, as a database row names it.
+//! A server's host, as a database row names it: a text of at most 255 bytes, which takes no memory where it is copied.
+//!
+//! Public: `Host`, which `ini_config` makes of a row's text, start keys have (`start_keys`), `tcp_reach` connects to, and `pgsess` names
+//! the folder of its Unix socket by; `ini_config` and `start_keys` pass it on to those above them. Which texts are hosts `ini_config`
+//! says. Contracts see the text alone: how its bytes lie is free to change.
 #![tactic(auto)]
 
 ghost use Rattle.std.specs.Prelude.{◌≡◌, ◌≤◌, [], length, nat_le, bytes_eq, codes, Some, None, if◌then◌else◌};

@@ -1,4 +1,10 @@
 //! The stand-in server's session: one frame in, the next state and the reply frames out.
+//!
+//! Public: `Session`, of which `memory_ends` and `stub_server` have one for each connection, and `solo_bytes`, the answer to all bytes of
+//! one client, for `replay_run` and `trials`; beside these it passes on what they need of the crates below, definitions too. Its
+//! contracts say that it is the session of `session_values` (`Step`, `Service`), by which laws speak of any server: to a pool that serves
+//! it is a model, and is never called. Free to change: whatever leaves states and replies as they are, as on which copy a frame is
+//! answered.
 #![tactic(auto)]
 
 mod bind;

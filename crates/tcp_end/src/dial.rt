@@ -13,7 +13,7 @@ use tcp_reach::places::Place;
 
 /// The end of a new connection to a server of this host and port, and the place where it is. Where the host has several places, the
 /// one at this turn is tried first, and the others after it. Over IP it is kept alive, where it is said how. The error says that none
-/// could be had, or not in so many seconds (0: in [`CONNECT_SECONDS`]) besides what a look-up of names takes; or that an allocation failed.
+/// could be had, or not in so many seconds (0: in [`time_limits::CONNECT_SECONDS`]) besides what a look-up of names takes; or that an allocation failed.
 pub fn dial<R: Net>(
     rt: &R,
     alloc: Global,

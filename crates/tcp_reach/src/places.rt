@@ -159,7 +159,6 @@ fn places_of_text<R: Net>(rt: &R, alloc: Global, text: &[u8], port: u16) -> io::
 
 /// The places of a row's host, or of several with commas between, at this port: in the order of the hosts, and of the resolver's answers.
 /// A host that isn't known is left out where another is; the error is the last host's.
-
 pub fn places_of<R: Net>(rt: &R, alloc: Global, host: &[u8], port: u16) -> io::Result<Vec<Place>>
     ensures { IfOk result (λ v. All (IsPlaceOf host.now port) v.items) }
 {

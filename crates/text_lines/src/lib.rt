@@ -1,4 +1,9 @@
 //! Lines of a text file whose bytes need not be UTF-8: what PgBouncer's settings and user list have in common.
+//!
+//! Public: `trimmed` and `is_ignored`, for `ini_config`, `user_file` and `settings_check`; and `Text`, bytes of its own, which these
+//! three, `pool_app`, `credentials`, `console_core`, `tcp_listen`, `pool_run` and `pgsess` have. Public too are the definitions: `Lines`,
+//! and `Files`, which says what a file comes to whose first faulty line decides; `session_catalogue` cites them, and calls nothing here.
+//! Free to change: how a `Text` keeps its bytes.
 #![tactic(auto)]
 
 ghost use Rattle.std.specs.Prelude.{◌≡◌, IfOk};

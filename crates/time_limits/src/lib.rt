@@ -1,5 +1,10 @@
 //! The times that bound what the pooler waits for, and the turns that make such times: how long each is, what it bounds, and what comes at
 //! its end. Where a setting takes the place of one, or bounds the same wait, it is named; what settings alone say stands in `ini_config`.
+//!
+//! Public: the times, which `tcp_end` (turns of a gate), `pool_serve`, `pool_desk`, `tcp_reach`, `tcp_listen`, `pool_run`, `log_writer`,
+//! `worker_threads` and `metrics_http` wait by; `MAX_TURNS` bounds loops of `console_run`, `stub_server` and `tcp_notes` too. Contracts
+//! cite four of them, by name: `LINK_TURNS` and `CLIENT_TURNS` in `pool_serve`, `MAX_TURNS` in `console_run`, `CONNECT_SECONDS` in
+//! `tcp_reach`. Free to change: the numbers, within what is proved of them below; docs/OPERATING.md tells them to operators.
 #![tactic(auto)]
 
 ghost use Rattle.std.specs.Prelude.{◌≡◌, ◌*◌};

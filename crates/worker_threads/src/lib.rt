@@ -1,4 +1,9 @@
 //! Threads that do jobs, and are kept for the next ones.
+//!
+//! Public: `Workers`, of which `pool_run` and `stub_server` have one each, with connections for jobs. Contracts are those of the private
+//! `board` alone: no more jobs lie there than threads wait, each is taken once, and a thread ends only where none is left for it. That a
+//! thread wakes for its job isn't proved; `running_tests` try it. Free to change: how many threads are kept, and which job is taken
+//! first.
 #![tactic(auto)]
 
 mod board;
