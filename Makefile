@@ -29,7 +29,7 @@ time; else all is proved anew. RT_JOBS=N says how many are proved side by side, 
   make install    that, and puts it in PREFIX, /usr/local, with its pages; DESTDIR as usual          proves first
   make deb        that, and makes a Debian package in build/                                         proves first
   make dist       a release in build/dist: the package, a tar, their checksums                       proves first
-  make test       the gate: every proof, edits that must be refused, every test                      seven hours of processor time
+  make test       the gate: every proof, edits that must be refused, every test                      six hours of processor time
   make wrong      the wrong versions that the gate leaves out; CRATES="mini_sql .." some             hours for all, minutes for a crate
   make recipes    the recipes that install HAProxy and stunnel; PROGRAM=build/pgsess                 some 2 minutes; proves first
   make bench      measurements beside PgBouncer, which it installs                                   proves first
