@@ -19,8 +19,6 @@ from wire import Client
 TOP = pathlib.Path(__file__).resolve().parents[2]
 HERE = "127.0.0.1"
 PACKAGES = ["postgresql", "postgresql-client"]
-# what holds is seen at once, so only what fails takes longer by it
-PATIENCE = 4
 SECONDS = 60
 TIME_TO_END = 5
 # what a poll is called among a process's files
@@ -72,8 +70,8 @@ def set_up():
 
 
 def until(holds, seconds=SECONDS):
-    """Whether it holds in time: in so many seconds, or in PATIENCE times as many, since the machine may be busy."""
-    end = time.monotonic() + PATIENCE * seconds
+    """Whether it holds in time."""
+    end = time.monotonic() + seconds
     while not holds():
         if time.monotonic() > end:
             return False
