@@ -183,7 +183,7 @@ refusals ClientMessageTooLong = refl
 refusals MalformedServerMessage = refl
 refusals LastDecision = refl
 
-notes : (told : Note) (ms : Option ℕ) → Prints (words told ms)
+notes : (logged : Note) (ms : Option ℕ) → Prints (words logged ms)
 notes note.LoggedIn ms = refl
 notes note.Closed ms = times ms
 notes note.Late ms = both (after ms) (codes ": not through its login in client_login_timeout") (times ms) refl
@@ -204,8 +204,8 @@ notes note.Resumed ms = refl
 notes note.Reconnecting ms = refl
 notes note.ShuttingDown ms = refl
 
-pub lines : (c : Client) (told : Note) (ms : Option ℕ) → Prints (line c told ms)
-lines c told ms = both (who c) (words told ms) (clients c) (notes told ms)
+pub lines : (c : Client) (logged : Note) (ms : Option ℕ) → Prints (line c logged ms)
+lines c logged ms = both (who c) (words logged ms) (clients c) (notes logged ms)
 
 -- ---- lines of the program
 
@@ -232,25 +232,25 @@ hears heard.Ended = refl
 hears (heard.Said message) = said message.now
 hears heard.Spoke = refl
 
-told : (e : Event) → Prints (event_words e)
-told (event.Listening host port) = places host.now port
-told (event.NotListening folder port why) = both (place folder.now port) (codes ": " ++ shown_text why.now) (places folder.now port) (texts 92 why.now)
-told (event.ListeningForMetrics host port) = addresses host.now port
-told (event.NotListeningForMetrics host port why) = both (address host.now port) (codes ": " ++ shown_text why.now) (addresses host.now port) (texts 92 why.now)
-told (event.Unreached host port why) = both (address host.now port) (codes " not reached: " ++ shown_text why.now) (addresses host.now port) (texts 92 why.now)
-told (event.NoFile host port why) = both (address host.now port) (codes ": " ++ shown_text why.now) (addresses host.now port) (texts 92 why.now)
-told event.NoClock = refl
-told event.Reloaded = refl
-told (event.NotReloaded fault) = texts 92 fault.now
-told (event.AsAtStart what) = texts 92 what.now
-told (event.NoPasswords n first) = both (counted (n, codes " secrets of the user file accept no password, the first that of ")) (shown_name first.now)
+event_lines : (e : Event) → Prints (event_words e)
+event_lines (event.Listening host port) = places host.now port
+event_lines (event.NotListening folder port why) = both (place folder.now port) (codes ": " ++ shown_text why.now) (places folder.now port) (texts 92 why.now)
+event_lines (event.ListeningForMetrics host port) = addresses host.now port
+event_lines (event.NotListeningForMetrics host port why) = both (address host.now port) (codes ": " ++ shown_text why.now) (addresses host.now port) (texts 92 why.now)
+event_lines (event.Unreached host port why) = both (address host.now port) (codes " not reached: " ++ shown_text why.now) (addresses host.now port) (texts 92 why.now)
+event_lines (event.NoFile host port why) = both (address host.now port) (codes ": " ++ shown_text why.now) (addresses host.now port) (texts 92 why.now)
+event_lines event.NoClock = refl
+event_lines event.Reloaded = refl
+event_lines (event.NotReloaded fault) = texts 92 fault.now
+event_lines (event.AsAtStart what) = texts 92 what.now
+event_lines (event.NoPasswords n first) = both (counted (n, codes " secrets of the user file accept no password, the first that of ")) (shown_name first.now)
     (count n (codes " secrets of the user file accept no password, the first that of ") refl) (texts 32 first.now)
-told (event.Wanting n) = count n (codes " connections closed for want of a thread, a poll, a file or memory") refl
-told (event.Late n) = count n (codes " connections closed that didn't say who they are in client_login_timeout") refl
-told (event.Dropped n) = count n (codes " lines of the log were dropped") refl
-told (event.IdleClosed n h) = both (decimal n ++ codes " closed: ") (heard_words h) (both (decimal n) (codes " closed: ") (decimals n) refl) (hears h)
-told (event.Stats r) = goes_through r
-told (event.Ended t) = ends t
+event_lines (event.Wanting n) = count n (codes " connections closed for want of a thread, a poll, a file or memory") refl
+event_lines (event.Late n) = count n (codes " connections closed that didn't say who they are in client_login_timeout") refl
+event_lines (event.Dropped n) = count n (codes " lines of the log were dropped") refl
+event_lines (event.IdleClosed n h) = both (decimal n ++ codes " closed: ") (heard_words h) (both (decimal n) (codes " closed: ") (decimals n) refl) (hears h)
+event_lines (event.Stats r) = goes_through r
+event_lines (event.Ended t) = ends t
 
 pub printing : LinesArePrinting
-printing = record { notes = lines; events = told }
+printing = record { notes = lines; events = event_lines }

@@ -8,7 +8,7 @@ use Rattle.log_lines.specs.Shown.{is_printing}
 use Rattle.log_lines.specs.Lines.{line}
 use Rattle.log_lines.specs.Events.{event_line}
 
--- Whatever names and texts are told of, a line is printing ASCII: it neither ends early nor holds a control byte.
+-- Whatever names and texts are logged, a line is printing ASCII: it neither ends early nor holds a control byte.
 pub record LinesArePrinting : Type 0 where
-  pub notes : (c : Client) (told : Note) (ms : Option ℕ) → list_all is_printing (line c told ms) ≡ true
+  pub notes : (c : Client) (logged : Note) (ms : Option ℕ) → list_all is_printing (line c logged ms) ≡ true
   pub events : (e : Event) → list_all is_printing (event_line e) ≡ true

@@ -1,4 +1,4 @@
--- The lines of the log about clients, each without its end: `pgsess: `, the client, and what is told of it.
+-- The lines of the log about clients, each without its end: `pgsess: `, the client, and what is logged of it.
 use Rattle.std.specs.Prelude.{ℕ, List, [], ◌∷◌, ◌++◌, ◌==◌, Option, Some, None, Result, Ok, Err, if◌then◌else◌, Bool, ◌||◌, bytes_eq, length, drop, codes, decimal}
 use Rattle.message_view.specs.declared.refusal.Refusal.{Refusal}
 use Rattle.message_view.specs.declared.ViewError.{ViewError}
@@ -114,7 +114,7 @@ loss_words loss.Foreign = codes "malformed server message"
 loss_words loss.NotReset = codes "not reset by DISCARD ALL"
 loss_words loss.Cancelled = codes "cancel requested"
 
--- ---- what is told
+-- ---- what is logged
 
 -- a refusal of this pooler: its text and its number
 abbrev pub refusal_words : Refusal → Text
@@ -154,4 +154,4 @@ words note.Reconnecting ms = codes " reconnects the pool"
 words note.ShuttingDown ms = codes " shuts the pool down"
 
 abbrev pub line : Client → Note → Option ℕ → Text
-line c told ms = codes "pgsess: " ++ who c ++ words told ms
+line c logged ms = codes "pgsess: " ++ who c ++ words logged ms

@@ -1,4 +1,4 @@
-//! What the log is told of the program itself, and the lines of it.
+//! What is logged of the program itself, and the lines of it.
 ghost use Rattle.std.specs.Prelude.{◌≡◌, ◌++◌, codes, decimal, OnOk};
 ghost use Rattle.std.specs.List.{flat_map};
 ghost use Rattle.log_lines.specs.Events.{counted, counted_view};
@@ -60,7 +60,7 @@ pub enum Heard<'a> {
     Spoke,
 }
 
-/// What the log is told of the program itself.
+/// What is logged of the program itself.
 #[derive(Clone, Copy)]
 pub enum Event<'a> {
     /// It listens at this address or folder, and port.

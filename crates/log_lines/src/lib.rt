@@ -1,4 +1,4 @@
-//! The pool's log: what it is told, and the lines that are made of it.
+//! The pool's log: what is logged, and the lines that are made of it.
 //!
 //! Public: `notes`, which `pool_serve`, `console_run` and desks tell, and `events`, which `pool_run` tells; `put_note` and `put_event`,
 //! by which `log_writer` makes their lines; `sqlstate` and `ends_session`, for `pool_serve`; and `shown`, for `settings_check`. `laws`

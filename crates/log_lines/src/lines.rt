@@ -346,7 +346,7 @@ fn put_between(
     line.extend_from_slice(behind)
 }
 
-/// What is told.
+/// What is logged.
 fn put_words(line: &mut Vec<u8>, note: Note<'_>, ms: Option<u64>) -> Result<(), AllocError>
     ensures { OnOk result (line.new.items ≡ line.old.items ++ spec.words note.entry ms) }
 {
@@ -392,7 +392,7 @@ fn put_words(line: &mut Vec<u8>, note: Note<'_>, ms: Option<u64>) -> Result<(), 
     }
 }
 
-/// Appends the line of what is told of a client, without its end, to a buffer: after so many milliseconds of its visit, where
+/// Appends the line of what is logged of a client, without its end, to a buffer: after so many milliseconds of its visit, where
 /// they are known. The only error is that an allocation failed: then the buffer holds a part of it.
 pub fn put_note(
     line: &mut Vec<u8>,

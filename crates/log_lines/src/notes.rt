@@ -1,4 +1,4 @@
-//! What a pool's log is told: each note is one line of it.
+//! What a pool logs of its clients: each note is one line.
 
 use arrayvec::ArrayString;
 use message_view::Refusal;
@@ -87,7 +87,7 @@ pub enum LoginFailure {
     WrongPassword,
 }
 
-/// What a pool's log is told.
+/// What a pool logs of a client.
 #[derive(Clone, Copy)]
 pub enum Note<'a> {
     /// The client is through its login.

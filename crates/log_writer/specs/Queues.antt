@@ -6,7 +6,7 @@ use Rattle.log_writer.specs.declared.queue.Next.TheVariants.{Dropped, Line}
 abbrev pub Text : Type 0
 Text = List ℕ
 
--- the lines, and how many were dropped since this was told last
+-- the lines, and how many were dropped since this was logged last
 pub record QueueOf : Type 0 where
   pub lines : List Text
   pub dropped : ℕ
@@ -25,7 +25,7 @@ has_room q = nat_lt (length q.lines) 1024
 abbrev pub pushed : Text → QueueOf → QueueOf
 pushed line q = if has_room q then record q { lines = q.lines ++ take 1000 line ∷ [] } else with_drop q
 
--- that lines were dropped is told as soon as there is room again, before all lines that wait
+-- that lines were dropped is logged as soon as there is room again, before all lines that wait
 abbrev pub tells_drops : QueueOf → Bool
 tells_drops q = nat_lt 0 q.dropped && has_room q
 

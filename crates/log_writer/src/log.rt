@@ -15,13 +15,13 @@ use time_limits::LOG_END;
 #[derive(Drop)]
 struct State {
     queue: Queue,
-    /// Nothing is told any more.
+    /// Nothing is logged any more.
     is_closed: bool,
     /// The thread has ended.
     is_done: bool,
 }
 
-/// A log. What it is told waits in a queue, from which one thread writes it: nobody else waits for that.
+/// A log. What is logged waits in a queue, from which one thread writes it: nobody else waits for that.
 #[derive(Drop)]
 pub struct Log {
     state: Mutex<State>,
@@ -141,14 +141,14 @@ pub fn begin<R: Threads + Wait + Copy + Send + 'static, W: Write + Drop + Send +
 ) -> Result<(Arc<Log>, LogThread), AllocError> {
     let line = Vec::with_capacity(alloc, MAX_LINE + 1)?;
     let log = Arc::new(alloc, Log::new(alloc)?)?;
-    let (told, shared) = (Arc::try_clone(&log)?, Arc::try_clone(&log)?);
+    let (handed, shared) = (Arc::try_clone(&log)?, Arc::try_clone(&log)?);
     let thread = thread::spawn(&rt, move || {
         let mut out = out;
         let mut line = line;
         shared.write_all(&rt, &mut line, &mut out);
         shared.end(&rt);
     })?;
-    Ok((told, LogThread { log, thread }))
+    Ok((handed, LogThread { log, thread }))
 }
 
 impl LogThread {

@@ -22,15 +22,15 @@ abbrev pub after : Reading → Line → Option IniCause → Reading
 after reading line None = ini.with_line reading line
 after reading line (Some cause) = reading
 
-abbrev pub told : ℕ → Section → Line → Option IniCause → List Faulty → List Faulty
-told n section line None later = later
-told n section line (Some cause) later = faulty cause n section line ∷ later
+abbrev pub with_fault : ℕ → Section → Line → Option IniCause → List Faulty → List Faulty
+with_fault n section line None later = later
+with_fault n section line (Some cause) later = faulty cause n section line ∷ later
 
 -- those of some lines, the first of which has this number, after what was read above them
 abbrev pub faults_from : Reading → ℕ → List Line → List Faulty
 faults_from reading n [] = []
 faults_from reading n (line ∷ lines) =
-    told n reading.section line (ini.fault_of reading line) (faults_from (after reading line (ini.fault_of reading line)) (n + 1) lines)
+    with_fault n reading.section line (ini.fault_of reading line) (faults_from (after reading line (ini.fault_of reading line)) (n + 1) lines)
 
 abbrev pub faults : List Line → List Faulty
 faults lines = faults_from ini.empty_file 1 lines

@@ -99,22 +99,22 @@ fn user_line(alloc: Global, file: &[u8], faulty: &FaultyUser) -> Result<Text, Al
 fn ini_faults(alloc: Global, file: &[u8], text: &[u8]) -> Result<Vec<Text>, AllocError>
     ensures { IfOk result (λ v. v.items ≡ spec.ini_faults file.now text.now) }
 {
-    let mut told = Vec::new(alloc);
+    let mut lines = Vec::new(alloc);
     for faulty in faulty_lines(alloc, text)?.as_slice() {
-        told.push(ini_line(alloc, file, faulty)?)?;
+        lines.push(ini_line(alloc, file, faulty)?)?;
     }
-    Ok(told)
+    Ok(lines)
 }
 
 /// A line for each fault of the users in this file, in their order. The only error is out of memory.
 fn user_faults(alloc: Global, file: &[u8], text: &[u8]) -> Result<Vec<Text>, AllocError>
     ensures { IfOk result (λ v. v.items ≡ spec.user_faults file.now text.now) }
 {
-    let mut told = Vec::new(alloc);
+    let mut lines = Vec::new(alloc);
     for faulty in faulty_users(alloc, text)?.as_slice() {
-        told.push(user_line(alloc, file, faulty)?)?;
+        lines.push(user_line(alloc, file, faulty)?)?;
     }
-    Ok(told)
+    Ok(lines)
 }
 
 /// A line about the whole file.
@@ -130,16 +130,16 @@ fn remark(alloc: Global, file: &[u8], mark: &[u8], words: &[u8]) -> Result<Text,
 
 /// Adds a line for each remark.
 fn add_remarks(
-    told: &mut Vec<Text>,
+    lines: &mut Vec<Text>,
     alloc: Global,
     file: &[u8],
     mark: &[u8],
     remarks: &[Text],
 ) -> Result<(), AllocError>
-    ensures { OnOk result (told.new.items ≡ told.old.items ++ map (λ words. log.shown_text file.now ++ mark.now ++ words) remarks.now) }
+    ensures { OnOk result (lines.new.items ≡ lines.old.items ++ map (λ words. log.shown_text file.now ++ mark.now ++ words) remarks.now) }
 {
     for words in remarks {
-        told.push(remark(alloc, file, mark, words.as_bytes())?)?;
+        lines.push(remark(alloc, file, mark, words.as_bytes())?)?;
     }
     Ok(())
 }
@@ -153,27 +153,27 @@ fn remarks(
 ) -> Result<Vec<Text>, AllocError>
     ensures { IfOk result (λ v. v.items ≡ spec.remarks uses_auth_file file.now text.now) }
 {
-    let mut told = Vec::new(alloc);
+    let mut lines = Vec::new(alloc);
     let notices = notices(alloc, uses_auth_file, text)?;
-    add_remarks(&mut told, alloc, file, b": ", notices.as_slice())?;
+    add_remarks(&mut lines, alloc, file, b": ", notices.as_slice())?;
     let differences = differences(alloc, text)?;
     add_remarks(
-        &mut told,
+        &mut lines,
         alloc,
         file,
         b": unlike PgBouncer: ",
         differences.as_slice(),
     )?;
-    Ok(told)
+    Ok(lines)
 }
 
 /// One line.
 fn only(alloc: Global, line: Text) -> Result<Vec<Text>, AllocError>
     ensures { IfOk result (λ v. v.items ≡ line ∷ []) }
 {
-    let mut told = Vec::new(alloc);
-    told.push(line)?;
-    Ok(told)
+    let mut lines = Vec::new(alloc);
+    lines.push(line)?;
+    Ok(lines)
 }
 
 /// A line for each fault of the users.

@@ -5,5 +5,5 @@ use Rattle.settings_check.proofs.report.add_remarks.Given as goal
 
 abbrev pub invariant-loop-words : goal.invariant-loop-words
 invariant-loop-words l =
-    l.told.items ++ map (λ words. shown_text l.file ++ l.mark ++ words) (drop l.words-index l.remarks)
-    ≡ l.fn.told.items ++ map (λ words. shown_text l.file ++ l.mark ++ words) l.remarks
+    l.lines.items ++ map (λ words. shown_text l.file ++ l.mark ++ words) (drop l.words-index l.remarks)
+    ≡ l.fn.lines.items ++ map (λ words. shown_text l.file ++ l.mark ++ words) l.remarks

@@ -6,4 +6,4 @@ use Rattle.settings_check.proofs.report.ini_faults.Given as goal
 
 abbrev pub invariant-loop-faulty : goal.invariant-loop-faulty
 invariant-loop-faulty l =
-    l.told.items ++ map (spec.ini_line l.file) (map found (drop l.faulty-index l.faulty-items)) ≡ spec.ini_faults l.file l.text
+    l.lines.items ++ map (spec.ini_line l.file) (map found (drop l.faulty-index l.faulty-items)) ≡ spec.ini_faults l.file l.text

@@ -6,4 +6,4 @@ use Rattle.settings_check.proofs.report.user_faults.Given as goal
 
 abbrev pub invariant-loop-faulty : goal.invariant-loop-faulty
 invariant-loop-faulty l =
-    l.told.items ++ map (spec.user_line l.file) (map found (drop l.faulty-index l.faulty-items)) ≡ spec.user_faults l.file l.text
+    l.lines.items ++ map (spec.user_line l.file) (map found (drop l.faulty-index l.faulty-items)) ≡ spec.user_faults l.file l.text
