@@ -2,7 +2,7 @@
 use book_model::counts::Counts;
 use book_model::events::{Beyond, ClientState, Event};
 use book_model::limits::Limits;
-use book_model::rows::Rows as DatabaseRows;
+use book_model::rows::DatabaseRows;
 use book_register::book_state::BookState;
 use book_register::view::BookView;
 use book_rows::clients::Client;

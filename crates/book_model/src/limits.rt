@@ -2,7 +2,7 @@
 ghost use Rattle.std.specs.Prelude.{◌≡◌};
 ghost use Rattle.book_model.specs.Book.{is_listed, row_for, size_of};
 
-use crate::rows::Rows;
+use crate::rows::DatabaseRows;
 use start_keys::StartKey;
 use std::marker::Model;
 
@@ -30,7 +30,7 @@ pub struct Limits {
     /// How long a link may lie idle; 0 is for ever.
     pub server_idle_timeout: u32,
     /// The database rows: each tells the most links of a pool of it, and which idle links may be kept.
-    pub rows: Rows,
+    pub rows: DatabaseRows,
 }
 
 impl Drop for Limits {

@@ -12,7 +12,7 @@ use std::marker::Model;
 
 /// A database row: the name that clients ask for, where its server is, and how many links a pool of it may have (PgBouncer's
 /// `pool_size`).
-pub struct Row {
+pub struct DatabaseRow {
     pub name: Text,
     /// The server's host.
     pub host: Host,
@@ -23,9 +23,9 @@ pub struct Row {
     pub size: u32,
 }
 
-impl Drop for Row {
+impl Drop for DatabaseRow {
     fn drop(self) {
-        let Row {
+        let DatabaseRow {
             name: _,
             host: _,
             port: _,
@@ -35,10 +35,10 @@ impl Drop for Row {
     }
 }
 
-impl Model for Row {
-    ghost use Rattle.book_model.specs.Book.{Row as RowOf};
+impl Model for DatabaseRow {
+    ghost use Rattle.book_model.specs.Book.{Row};
 
-    ghost Value = { RowOf };
+    ghost Value = { Row };
 
     ghost view = { λ r. record { name = r.name; host = r.host; port = r.port; dbname = r.dbname; size = r.size } };
 }
@@ -59,7 +59,7 @@ const WILDCARD: &[u8] = b"*";
 /// The longest name of a database that PostgreSQL has.
 const MAX_NAME: usize = 63;
 
-impl Row {
+impl DatabaseRow {
     /// Whether the key's server is that of the row.
     pub fn leads(&self, key: &StartKey) -> bool
         ensures { result ≡ leads_to self.now key.now }
@@ -86,23 +86,23 @@ impl Row {
 }
 
 /// Database rows in their order, each found by its name at once. Of several rows of one name the first counts.
-pub struct Rows {
-    rows: Vec<Row>,
+pub struct DatabaseRows {
+    rows: Vec<DatabaseRow>,
     places: IndexMap<Vec<u8>, usize>,
 }
 
-impl Drop for Rows {
+impl Drop for DatabaseRows {
     fn drop(self) {
-        let Rows { rows: _, places: _ } = self;
+        let DatabaseRows { rows: _, places: _ } = self;
     }
 }
 
-impl Model for Rows {
+impl Model for DatabaseRows {
     ghost use Rattle.std.specs.Prelude.{List};
-    ghost use Rattle.book_model.specs.Book.{Row as RowOf};
+    ghost use Rattle.book_model.specs.Book.{Row};
     ghost use Rattle.book_model.specs.RowIndex.{FindsRows};
 
-    ghost Value = { List RowOf };
+    ghost Value = { List Row };
 
     ghost view = { λ r. r.rows.items };
 
@@ -110,7 +110,7 @@ impl Model for Rows {
 }
 
 /// Where the first row of each name stands. The only error is that memory was refused.
-fn places_of(alloc: Global, rows: &[Row]) -> Result<IndexMap<Vec<u8>, usize>, AllocError>
+fn places_of(alloc: Global, rows: &[DatabaseRow]) -> Result<IndexMap<Vec<u8>, usize>, AllocError>
     ensures { IfOk result (λ m. FindsRows (λ k. k.items) m.entries rows.now rows.now) }
 {
     let mut places = IndexMap::new(alloc);
@@ -123,24 +123,24 @@ fn places_of(alloc: Global, rows: &[Row]) -> Result<IndexMap<Vec<u8>, usize>, Al
     Ok(places)
 }
 
-impl Rows {
+impl DatabaseRows {
     /// These rows. The only error is that memory was refused.
-    pub fn new(alloc: Global, rows: Vec<Row>) -> Result<Rows, AllocError>
+    pub fn new(alloc: Global, rows: Vec<DatabaseRow>) -> Result<DatabaseRows, AllocError>
         ensures { IfOk result (λ r. r ≡ rows.items) }
     {
         let places = places_of(alloc, &rows)?;
-        Ok(Rows { rows, places })
+        Ok(DatabaseRows { rows, places })
     }
 
     /// The rows, in their order.
-    pub fn as_slice(&self) -> &[Row]
+    pub fn as_slice(&self) -> &[DatabaseRow]
         ensures { result.now ≡ self.now }
     {
         self.rows.as_slice()
     }
 
     /// The first row of this name.
-    pub fn named(&self, name: &[u8]) -> Option<&Row>
+    pub fn named(&self, name: &[u8]) -> Option<&DatabaseRow>
         ensures { option_copied result ≡ row_named name.now self.now }
     {
         let place = self.places.get(name)?;
@@ -148,7 +148,7 @@ impl Rows {
     }
 
     /// The row of `*`, for a database of this name that no row names.
-    fn wildcard(&self, name: &[u8]) -> Option<&Row>
+    fn wildcard(&self, name: &[u8]) -> Option<&DatabaseRow>
         ensures { option_map (row_as name.now) (option_copied result) ≡ wildcard_row name.now self.now }
     {
         if name.len() > MAX_NAME {

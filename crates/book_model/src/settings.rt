@@ -5,16 +5,16 @@ ghost use Rattle.ini_config.specs.Bounds.{AreWithinBounds};
 ghost use Rattle.book_model.specs.Limits.{limits_in, row_in, rows_in};
 
 use crate::limits::Limits;
-use crate::rows::{Row, Rows};
+use crate::rows::{DatabaseRow, DatabaseRows};
 use ini_config::{DbRow, Settings};
 use session_values::text::Text;
 use std::alloc::{AllocError, Global};
 
 /// A row of the settings, as the limits have it.
-fn row_of(alloc: Global, settings: &Settings, row: &DbRow) -> Result<Row, AllocError>
+fn row_of(alloc: Global, settings: &Settings, row: &DbRow) -> Result<DatabaseRow, AllocError>
     ensures { IfOk result (λ r. r ≡ row_in settings.now.default_pool_size row.now) }
 {
-    Ok(Row {
+    Ok(DatabaseRow {
         name: Text::from_slice(alloc, row.name.as_bytes())?,
         host: row.host,
         port: row.port,
@@ -24,7 +24,7 @@ fn row_of(alloc: Global, settings: &Settings, row: &DbRow) -> Result<Row, AllocE
 }
 
 /// The rows of the settings, in their order.
-fn rows_of(alloc: Global, settings: &Settings) -> Result<Vec<Row>, AllocError>
+fn rows_of(alloc: Global, settings: &Settings) -> Result<Vec<DatabaseRow>, AllocError>
     ensures { IfOk result (λ v. v.items ≡ rows_in settings.now.default_pool_size settings.now.rows) }
 {
     let mut listed = Vec::new(alloc);
@@ -46,6 +46,6 @@ pub fn limits_of(alloc: Global, settings: &Settings) -> Result<Limits, AllocErro
         query_wait_timeout: settings.query_wait_timeout(),
         server_lifetime: settings.server_lifetime(),
         server_idle_timeout: settings.server_idle_timeout(),
-        rows: Rows::new(alloc, rows_of(alloc, settings)?)?,
+        rows: DatabaseRows::new(alloc, rows_of(alloc, settings)?)?,
     })
 }

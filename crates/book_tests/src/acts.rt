@@ -4,8 +4,8 @@ use crate::book_parts::{Settings, Whose, elsewhere, key_of, limits, link};
 use book_model::events::{Beyond, Change, ClientState, Event};
 use book_rows::clients::Client;
 use lease_book::book::Book;
-use lease_book::events::Event::{GiveBack, Plain};
-use lease_book::events::{Event as BookEvent, Reply};
+use lease_book::events::BookEvent::{GiveBack, Plain};
+use lease_book::events::{BookEvent, BookReply};
 use link_run::links::CleanLink;
 use memory_ends::gone_end::GoneEnd;
 use message_view::{KeyView, Refusal};
@@ -94,29 +94,29 @@ fn number_of(link: Option<CleanLink<GoneEnd>>) -> Option<u64> {
 }
 
 /// The reply, without its links.
-fn by_numbers(reply: Reply<GoneEnd>) -> Told {
+fn by_numbers(reply: BookReply<GoneEnd>) -> Told {
     match reply {
-        Reply::Client(client) => Told::Client(client),
-        Reply::Queued(before) => Told::Queued(before),
-        Reply::Lend(link) => Told::Lend(number(link)),
-        Reply::Start {
+        BookReply::Client(client) => Told::Client(client),
+        BookReply::Queued(before) => Told::Queued(before),
+        BookReply::Lend(link) => Told::Lend(number(link)),
+        BookReply::Start {
             number,
             started_at,
             evicted,
         } => Told::Start(number, started_at, number_of(evicted)),
-        Reply::Close(link) => Told::Close(number(link)),
-        Reply::Refuse(refusal, back) => Told::Refuse(refusal, number_of(back)),
-        Reply::Done => Told::Done,
-        Reply::Stranger(back) => Told::Stranger(number_of(back)),
-        Reply::Strike {
+        BookReply::Close(link) => Told::Close(number(link)),
+        BookReply::Refuse(refusal, back) => Told::Refuse(refusal, number_of(back)),
+        BookReply::Done => Told::Done,
+        BookReply::Stranger(back) => Told::Stranger(number_of(back)),
+        BookReply::Strike {
             number,
             server,
             host,
             port,
         } => Told::Strike(number, server, site_of(host), port),
-        Reply::Nobody => Told::Nobody,
-        Reply::Reset => Told::Reset,
-        Reply::Dispose => Told::Dispose,
+        BookReply::Nobody => Told::Nobody,
+        BookReply::Reset => Told::Reset,
+        BookReply::Dispose => Told::Dispose,
     }
 }
 
@@ -152,7 +152,7 @@ impl Story {
     }
 
     /// What the book answers, of which a proof knows nothing: so none of a test carries the book's definition along.
-    fn reply(&mut self, event: BookEvent<GoneEnd>) -> Reply<GoneEnd> {
+    fn reply(&mut self, event: BookEvent<GoneEnd>) -> BookReply<GoneEnd> {
         self.book.apply(7, event)
     }
 

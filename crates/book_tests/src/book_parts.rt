@@ -2,7 +2,7 @@
 ghost use Rattle.std.specs.Prelude.{◌≡◌, false, IfOk};
 
 use book_model::limits::Limits;
-use book_model::rows::{Row, Rows};
+use book_model::rows::{DatabaseRow, DatabaseRows};
 use link_run::links::{CleanLink, LinkParts};
 use memory_ends::gone_end::GoneEnd;
 use memory_start_laws::unfollowed_starts_are_clean;
@@ -104,8 +104,8 @@ fn pool_size(settings: Settings) -> u32 {
 }
 
 /// A database row at port 5432 of 127.0.0.1, whose database is named as it is.
-fn row(alloc: Global, name: &[u8], size: u32) -> Result<Row, AllocError> {
-    Ok(Row {
+fn row(alloc: Global, name: &[u8], size: u32) -> Result<DatabaseRow, AllocError> {
+    Ok(DatabaseRow {
         name: Text::from_slice(alloc, name)?,
         host: Host::local(),
         port: 5432,
@@ -115,7 +115,7 @@ fn row(alloc: Global, name: &[u8], size: u32) -> Result<Row, AllocError> {
 }
 
 /// The row of the shop, where there is one.
-fn shop(alloc: Global, settings: Settings) -> Result<Option<Row>, AllocError> {
+fn shop(alloc: Global, settings: Settings) -> Result<Option<DatabaseRow>, AllocError> {
     let mut row = row(alloc, b"shop", pool_size(settings))?;
     match settings {
         Settings::Shop(Change::Host) => row.host = elsewhere(),
@@ -128,13 +128,13 @@ fn shop(alloc: Global, settings: Settings) -> Result<Option<Row>, AllocError> {
 }
 
 /// The rows of these settings: the cafe, and the shop.
-fn rows(alloc: Global, settings: Settings) -> Result<Rows, AllocError> {
+fn rows(alloc: Global, settings: Settings) -> Result<DatabaseRows, AllocError> {
     let mut rows = Vec::new(alloc);
     rows.push(row(alloc, b"cafe", pool_size(settings))?)?;
     if let Some(shop) = shop(alloc, settings)? {
         rows.push(shop)?;
     }
-    Rows::new(alloc, rows)
+    DatabaseRows::new(alloc, rows)
 }
 
 /// The limits of these settings.

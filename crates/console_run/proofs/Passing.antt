@@ -9,12 +9,12 @@ use Rattle.console_run.specs.Talks.{IsRefused}
 
 -- decisions of the class of the others alone, and the same client, link and refusal
 pub record Keeps (p q : Pass) : Type 0 where
-  pub share : Manages p.told q.told
+  pub share : Manages p.counted q.counted
   pub holder : IsSameHolder p.holder q.holder
 
 pub keeps_none : (p : Pass) → Keeps p p
 keeps_none p = record {
-  share = record { arrived = refl; granted = refl; given_back = refl; lost = refl; left = refl; others = le_refl p.told.made.others; unbroken = λ e. e };
+  share = record { arrived = refl; granted = refl; given_back = refl; lost = refl; left = refl; others = le_refl p.counted.made.others; unbroken = λ e. e };
   holder = record { client = refl; lease = refl; refused = refl; found = refl; struck = refl };
 }
 
@@ -54,7 +54,7 @@ keeps_exchanges (x ∷ xs) p = keeps_further p (after_doing x.does p) (after_exc
 
 keeps_broken : (a : Action) (p : Pass) → Keeps p (broken_by a p)
 keeps_broken a p = record {
-  share = record { arrived = refl; granted = refl; given_back = refl; lost = refl; left = refl; others = le_refl p.told.made.others; unbroken = λ e. absurd (true≢false e) };
+  share = record { arrived = refl; granted = refl; given_back = refl; lost = refl; left = refl; others = le_refl p.counted.made.others; unbroken = λ e. absurd (true≢false e) };
   holder = record { client = refl; lease = refl; refused = refl; found = refl; struck = refl };
 }
 

@@ -63,7 +63,7 @@ closing v database = if has_stale v database then (if v.is_shut then Some ShutsD
 pub record IsAwaited (p : Pass) (database : Option Text) (told : List FrameOf) : Type 0 where
   pub book : Book
   pub kept : Kept book
-  pub counted : AtMost p.told.made (class_counts book.counts)
+  pub counted : AtMost p.counted.made (class_counts book.counts)
   pub reply : ReplyOf
   pub closes : closing (view_of book) database ≡ Some reply
   pub told_is : told ≡ frames_of reply
@@ -85,7 +85,7 @@ shown v known s text None = frames_of (answer v s text)
 pub record IsShown (s : Settings) (p : Pass) (text : Text) (told : List FrameOf) : Type 0 where
   pub book : Book
   pub kept : Kept book
-  pub counted : AtMost p.told.made (class_counts book.counts)
+  pub counted : AtMost p.counted.made (class_counts book.counts)
   pub known : SeenOf
   pub told_is : told ≡ shown (view_of book) known s text (asked s.console_style text)
 

@@ -9,11 +9,11 @@ use Rattle.console_core.specs.declared.commands.Action.TheVariants.{Pause, Resum
 
 -- what is known of a pass: the decisions that were made through it, and who holds it
 pub record Pass : Type 0 where
-  pub told : PassOf
+  pub counted : PassOf
   pub holder : Holder
 
 abbrev pub pass_of : PassOf → Holder → Pass
-pass_of told holder = record { told = told; holder = holder }
+pass_of counted holder = record { counted = counted; holder = holder }
 
 -- the call that does an action; files that were read again hold once their limits do
 abbrev pub call_of : Action → Call
@@ -28,11 +28,11 @@ called a h = record h { last = Some (call_of a) }
 
 -- an action is one decision, of the class of the others
 abbrev pub after_action : Action → Pass → Pass
-after_action a p = pass_of (one_other p.told) (called a p.holder)
+after_action a p = pass_of (one_other p.counted) (called a p.holder)
 
 -- it was answered by the book's last decision
 abbrev pub broken_by : Action → Pass → Pass
-broken_by a p = pass_of (broken p.told) (called a p.holder)
+broken_by a p = pass_of (broken p.counted) (called a p.holder)
 
 -- what was done for a message
 abbrev pub after_doing : Option Action → Pass → Pass

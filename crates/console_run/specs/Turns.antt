@@ -67,7 +67,7 @@ pub record IsTold (answers : List FrameOf → Option Action → Type 0) (bytes :
 pub record IsEarly (p : Pass) (database : Option Text) : Type 0 where
   pub book : Book
   pub kept : Kept book
-  pub counted : AtMost p.told.made (class_counts book.counts)
+  pub counted : AtMost p.counted.made (class_counts book.counts)
   pub early : closing (view_of book) database ≡ None
 
 -- no other command waits, and none of who may but look
@@ -110,7 +110,7 @@ shown_by v known s (Asks what) = monitor.frames_of (monitor.reply_to v known s w
 pub record IsShownBy (s : Settings) (p : Pass) (request : RequestOf) (told : List FrameOf) : Type 0 where
   pub book : Book
   pub kept : Kept book
-  pub counted : AtMost p.told.made (class_counts book.counts)
+  pub counted : AtMost p.counted.made (class_counts book.counts)
   pub known : SeenOf
   pub told_is : told ≡ shown_by (view_of book) known s request
 

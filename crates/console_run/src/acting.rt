@@ -29,7 +29,7 @@ fn came_to(changed: Changed) -> Acted
 
 /// Reads the files again, and keeps the book to their limits; only where the book does so the files hold.
 fn reload<D: LinkDesk>(desk: &D, pass: &mut D::Pass) -> Acted
-    ensures { HasActed result Reload (pass_of (D.told pass.old) (D.holder pass.old)) (pass_of (D.told pass.new) (D.holder pass.new)) }
+    ensures { HasActed result Reload (pass_of (D.counted pass.old) (D.holder pass.old)) (pass_of (D.counted pass.new) (D.holder pass.new)) }
 {
     let Some(limits) = desk.reload() else {
         return Acted::Faulty;
@@ -41,7 +41,7 @@ fn reload<D: LinkDesk>(desk: &D, pass: &mut D::Pass) -> Acted
 
 /// Does what the console was asked to.
 pub(crate) fn act<D: LinkDesk>(desk: &D, pass: &mut D::Pass, action: Action) -> Acted
-    ensures { HasActed result action (pass_of (D.told pass.old) (D.holder pass.old)) (pass_of (D.told pass.new) (D.holder pass.new)) }
+    ensures { HasActed result action (pass_of (D.counted pass.old) (D.holder pass.old)) (pass_of (D.counted pass.new) (D.holder pass.new)) }
 {
     match action {
         Action::Pause => came_to(desk.pause(pass)),

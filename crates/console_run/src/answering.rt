@@ -185,7 +185,7 @@ fn shown_bytes(
     }
 }
 
-/// What the log is told of an action that was done; of new files the desk tells it.
+/// What is logged of an action that was done; of new files the desk logs it.
 fn note_of(action: Action) -> Option<Note<'static>> {
     match action {
         Action::Pause => Some(Note::Paused),
@@ -197,7 +197,7 @@ fn note_of(action: Action) -> Option<Note<'static>> {
 }
 
 impl<'a, D: LinkDesk> Console<'a, D> {
-    /// Tells the log of an action.
+    /// Logs an action.
     fn note(&self, action: Action) {
         if let Some(note) = note_of(action) {
             self.desk.note(self.who, &note);
@@ -206,7 +206,7 @@ impl<'a, D: LinkDesk> Console<'a, D> {
 
     /// Does an action. What couldn't be answered isn't done.
     fn act(&self, pass: &mut D::Pass, action: Action) -> Answered
-        ensures { HasAnswered (IsActed action) ⊥ false result (pass_of (D.told pass.old) (D.holder pass.old)) (pass_of (D.told pass.new) (D.holder pass.new)) }
+        ensures { HasAnswered (IsActed action) ⊥ false result (pass_of (D.counted pass.old) (D.holder pass.old)) (pass_of (D.counted pass.new) (D.holder pass.new)) }
     {
         let done = match reply_bytes(self.alloc, &ConsoleReply::Act(action)) {
             Ok(done) => done,
@@ -238,7 +238,7 @@ impl<'a, D: LinkDesk> Console<'a, D> {
 
     /// Does an action, where the client may have it done.
     fn act_if_allowed(&self, pass: &mut D::Pass, action: Action) -> Answered
-        ensures { HasAnswered (ForAdmins (exchange.may_act (asker self.now.settings.now self.now.who.now.user.now)) (IsActed action)) ⊥ false result (pass_of (D.told pass.old) (D.holder pass.old)) (pass_of (D.told pass.new) (D.holder pass.new)) }
+        ensures { HasAnswered (ForAdmins (exchange.may_act (asker self.now.settings.now self.now.who.now.user.now)) (IsActed action)) ⊥ false result (pass_of (D.counted pass.old) (D.holder pass.old)) (pass_of (D.counted pass.new) (D.holder pass.new)) }
     {
         if !self.may_act() {
             return self.not_allowed();
@@ -248,7 +248,7 @@ impl<'a, D: LinkDesk> Console<'a, D> {
 
     /// The answer to a WAIT_CLOSE over the book as it is now, where it isn't too early for one.
     fn await_close(&self, pass: &mut D::Pass, database: Option<&[u8]>) -> Answered
-        ensures { HasAnswered (IsClosed (pass_of (D.told pass.old) (D.holder pass.old)) (shown_value database.entry)) (IsEarly (pass_of (D.told pass.old) (D.holder pass.old)) (shown_value database.entry)) false result (pass_of (D.told pass.old) (D.holder pass.old)) (pass_of (D.told pass.new) (D.holder pass.new)) }
+        ensures { HasAnswered (IsClosed (pass_of (D.counted pass.old) (D.holder pass.old)) (shown_value database.entry)) (IsEarly (pass_of (D.counted pass.old) (D.holder pass.old)) (shown_value database.entry)) false result (pass_of (D.counted pass.old) (D.holder pass.old)) (pass_of (D.counted pass.new) (D.holder pass.new)) }
     {
         let view = match self.desk.view(self.alloc, pass) {
             Ok(view) => view,
@@ -262,7 +262,7 @@ impl<'a, D: LinkDesk> Console<'a, D> {
 
     /// The same, where the client may have something done.
     fn await_if_allowed(&self, pass: &mut D::Pass, database: Option<&[u8]>) -> Answered
-        ensures { HasAnswered (ForAdmins (exchange.may_act (asker self.now.settings.now self.now.who.now.user.now)) (IsClosed (pass_of (D.told pass.old) (D.holder pass.old)) (shown_value database.entry))) ((exchange.may_act (asker self.now.settings.now self.now.who.now.user.now) ≡ true) × IsEarly (pass_of (D.told pass.old) (D.holder pass.old)) (shown_value database.entry)) false result (pass_of (D.told pass.old) (D.holder pass.old)) (pass_of (D.told pass.new) (D.holder pass.new)) }
+        ensures { HasAnswered (ForAdmins (exchange.may_act (asker self.now.settings.now self.now.who.now.user.now)) (IsClosed (pass_of (D.counted pass.old) (D.holder pass.old)) (shown_value database.entry))) ((exchange.may_act (asker self.now.settings.now self.now.who.now.user.now) ≡ true) × IsEarly (pass_of (D.counted pass.old) (D.holder pass.old)) (shown_value database.entry)) false result (pass_of (D.counted pass.old) (D.holder pass.old)) (pass_of (D.counted pass.new) (D.holder pass.new)) }
     {
         if !self.may_act() {
             return self.not_allowed();
@@ -279,8 +279,8 @@ impl<'a, D: LinkDesk> Console<'a, D> {
 
     /// What a request is told that has nothing done, over the book as it is now.
     fn show(&self, pass: &mut D::Pass, request: Request<'_>) -> Result<BytesMut, AllocError>
-        ensures shown { IfOk result (λ out. IsShownAs self.now.settings.now (pass_of (D.told pass.old) (D.holder pass.old)) (request_view request.entry) out.items) }
-        ensures told { D.told pass.new ≡ D.told pass.old }
+        ensures shown { IfOk result (λ out. IsShownAs self.now.settings.now (pass_of (D.counted pass.old) (D.holder pass.old)) (request_view request.entry) out.items) }
+        ensures counted { D.counted pass.new ≡ D.counted pass.old }
         ensures holder { D.holder pass.new ≡ D.holder pass.old }
     {
         let view = self.desk.view(self.alloc, pass)?;
@@ -290,14 +290,14 @@ impl<'a, D: LinkDesk> Console<'a, D> {
 
     /// The answer to a request that has nothing done.
     fn look(&self, pass: &mut D::Pass, request: Request<'_>) -> Answered
-        ensures { HasAnswered (IsSeenBy self.now.settings.now (pass_of (D.told pass.old) (D.holder pass.old)) (request_view request.entry)) ⊥ false result (pass_of (D.told pass.old) (D.holder pass.old)) (pass_of (D.told pass.new) (D.holder pass.new)) }
+        ensures { HasAnswered (IsSeenBy self.now.settings.now (pass_of (D.counted pass.old) (D.holder pass.old)) (request_view request.entry)) ⊥ false result (pass_of (D.counted pass.old) (D.holder pass.old)) (pass_of (D.counted pass.new) (D.holder pass.new)) }
     {
         told(self.show(pass, request), false)
     }
 
     /// The answer to the text of a Query.
     fn command(&self, pass: &mut D::Pass, text: &[u8]) -> Answered
-        ensures { HasAnswered (IsAnswer (asker self.now.settings.now self.now.who.now.user.now) (pass_of (D.told pass.old) (D.holder pass.old)) text.now (command_of text.now)) (Waits (asker self.now.settings.now self.now.who.now.user.now) (pass_of (D.told pass.old) (D.holder pass.old)) (command_of text.now)) false result (pass_of (D.told pass.old) (D.holder pass.old)) (pass_of (D.told pass.new) (D.holder pass.new)) }
+        ensures { HasAnswered (IsAnswer (asker self.now.settings.now self.now.who.now.user.now) (pass_of (D.counted pass.old) (D.holder pass.old)) text.now (command_of text.now)) (Waits (asker self.now.settings.now self.now.who.now.user.now) (pass_of (D.counted pass.old) (D.holder pass.old)) (command_of text.now)) false result (pass_of (D.counted pass.old) (D.holder pass.old)) (pass_of (D.counted pass.new) (D.holder pass.new)) }
     {
         match read_request(self.settings.console_style(), text) {
             Request::Own(Command::Act(action)) => self.act_if_allowed(pass, action),
@@ -312,7 +312,7 @@ impl<'a, D: LinkDesk> Console<'a, D> {
 
     /// The answer to a message, where messages are dropped up to the next Sync or not.
     pub(crate) fn answer(&self, pass: &mut D::Pass, frame: Frame<'_>, drops: bool) -> Answered
-        ensures { HasResponded (asker self.now.settings.now self.now.who.now.user.now) (messages.response_to drops (frame_of frame.entry)) result (pass_of (D.told pass.old) (D.holder pass.old)) (pass_of (D.told pass.new) (D.holder pass.new)) }
+        ensures { HasResponded (asker self.now.settings.now self.now.who.now.user.now) (messages.response_to drops (frame_of frame.entry)) result (pass_of (D.counted pass.old) (D.holder pass.old)) (pass_of (D.counted pass.new) (D.holder pass.new)) }
     {
         match response_to(frame, drops) {
             Response::Leave => Answered::Left,

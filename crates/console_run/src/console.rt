@@ -23,7 +23,7 @@ fn drive_console<C: ClientEnd, D: LinkDesk, G: Gate<D::End>>(
     talk: &mut Talk<C>,
     gate: &mut G,
 ) -> Option<Refusal>
-    ensures { HasEnded (asker console.now.settings.now console.now.who.now.user.now) talk.old talk.new (pass_of (D.told pass.old) (D.holder pass.old)) (pass_of (D.told pass.new) (D.holder pass.new)) result }
+    ensures { HasEnded (asker console.now.settings.now console.now.who.now.user.now) talk.old talk.new (pass_of (D.counted pass.old) (D.holder pass.old)) (pass_of (D.counted pass.new) (D.holder pass.new)) result }
 {
     for _ in 0..MAX_TURNS {
         match talk.turn(console, pass) {
@@ -45,7 +45,7 @@ fn drive_console<C: ClientEnd, D: LinkDesk, G: Gate<D::End>>(
 ///
 /// It is refused where its message can't be one or is above the limit, where there was no memory, and where the book has made its last
 /// decision. An action of the console is a decision made through the pass, answered once it is made; what couldn't be answered for want of
-/// memory isn't done. `who` is told to the log beside them.
+/// memory isn't done. `who` is logged beside them.
 ///
 /// WAIT_CLOSE is answered once no link is stale any more that was there at the last RECONNECT, of its database, where it names one; by an
 /// error, where the book is shut down before that. Until then the book is looked at each second, and nothing else of the client's is
@@ -63,8 +63,8 @@ pub fn serve_console<C: ClientEnd, D: LinkDesk, G: Gate<D::End>>(
     who: &Client<'_>,
 ) -> (C, Option<Refusal>)
     ensures tells { (C.facts result.0).tells ≡ (C.facts client).tells }
-    ensures served { IsServed (asker settings.now who.now.user.now) word (C.facts client) (C.facts result.0) (pass_of (D.told pass.old) (D.holder pass.old)) (pass_of (D.told pass.new) (D.holder pass.new)) result.1 }
-    ensures share { Manages (D.told pass.old) (D.told pass.new) }
+    ensures served { IsServed (asker settings.now who.now.user.now) word (C.facts client) (C.facts result.0) (pass_of (D.counted pass.old) (D.holder pass.old)) (pass_of (D.counted pass.new) (D.holder pass.new)) result.1 }
+    ensures share { Manages (D.counted pass.old) (D.counted pass.new) }
     ensures holder { IsSameHolder (D.holder pass.old) (D.holder pass.new) }
 {
     let mut talk = match Talk::new(alloc, settings.console_style(), client, word) {

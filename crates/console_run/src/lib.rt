@@ -1,6 +1,6 @@
 //! A worker that serves one client of the console, behind its login.
 //!
-//! Public: `serve_console`, whose exchanges `pool_serve` cites. Free to change: what the log is told beside them.
+//! Public: `serve_console`, whose exchanges `pool_serve` cites. Free to change: what is logged beside them.
 #![tactic(auto)]
 
 mod acting;

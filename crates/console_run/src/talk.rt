@@ -155,7 +155,7 @@ impl<C: ClientEnd> Talk<C> {
     /// Answers the next message, or reads on.
     fn hear<D: LinkDesk>(&mut self, console: &Console<'_, D>, pass: &mut D::Pass) -> Turn
         requires { self.old.unwritten ≡ [] }
-        ensures { HasTurned (asker console.now.settings.now console.now.who.now.user.now) self.old self.new (pass_of (D.told pass.old) (D.holder pass.old)) (pass_of (D.told pass.new) (D.holder pass.new)) result }
+        ensures { HasTurned (asker console.now.settings.now console.now.who.now.user.now) self.old self.new (pass_of (D.counted pass.old) (D.holder pass.old)) (pass_of (D.counted pass.new) (D.holder pass.new)) result }
     {
         front_is_spelled();
         are_bytes(self.held.as_slice());
@@ -180,7 +180,7 @@ impl<C: ClientEnd> Talk<C> {
 
     /// One write, one read, or one message, for whose answer it may be too early. It waits for nobody.
     pub(crate) fn turn<D: LinkDesk>(&mut self, console: &Console<'_, D>, pass: &mut D::Pass) -> Turn
-        ensures { HasTurned (asker console.now.settings.now console.now.who.now.user.now) self.old self.new (pass_of (D.told pass.old) (D.holder pass.old)) (pass_of (D.told pass.new) (D.holder pass.new)) result }
+        ensures { HasTurned (asker console.now.settings.now console.now.who.now.user.now) self.old self.new (pass_of (D.counted pass.old) (D.holder pass.old)) (pass_of (D.counted pass.new) (D.holder pass.new)) result }
     {
         if !self.unwritten.is_empty() {
             return self.write();

@@ -14,7 +14,7 @@ pub record SharesOf : Type 0 where
 -- a pass: its number, what it tells, and who holds it
 pub record PassView : Type 0 where
   pub number : ℕ
-  pub told : PassOf
+  pub counted : PassOf
   pub holder : Holder
 
 abbrev pub by_class : ℕ → ℕ → ℕ → ℕ → ℕ → ℕ → Made
@@ -40,4 +40,4 @@ sum_of m n = by_class (m.arrived + n.arrived) (m.granted + n.granted) (m.given_b
 -- the decisions made through these passes together
 abbrev pub sum_over : List PassView → Made
 sum_over passes =
-    by_class (sum_by (λ p. p.told.made.arrived) passes) (sum_by (λ p. p.told.made.granted) passes) (sum_by (λ p. p.told.made.given_back) passes) (sum_by (λ p. p.told.made.lost) passes) (sum_by (λ p. p.told.made.left) passes) (sum_by (λ p. p.told.made.others) passes)
+    by_class (sum_by (λ p. p.counted.made.arrived) passes) (sum_by (λ p. p.counted.made.granted) passes) (sum_by (λ p. p.counted.made.given_back) passes) (sum_by (λ p. p.counted.made.lost) passes) (sum_by (λ p. p.counted.made.left) passes) (sum_by (λ p. p.counted.made.others) passes)

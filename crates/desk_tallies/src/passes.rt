@@ -88,7 +88,7 @@ impl<K: Ledgers> Model for Pass<K> {
 
     ghost Value = { PassView };
 
-    ghost view = { λ p. record { number = p.number; told = record { made = p.shares.amounts; is_broken = p.is_broken }; holder = p.holder } };
+    ghost view = { λ p. record { number = p.number; counted = record { made = p.shares.amounts; is_broken = p.is_broken }; holder = p.holder } };
 
     ghost invariant = { λ p. p.shares.parts ≡ of_each 1 };
 }
@@ -144,7 +144,7 @@ impl<K: Ledgers> Pass<K> {
     /// Its shares: a part of each ledger, and what was made through it.
     fn into_shares(self) -> Shares<K>
         ensures parts { result.parts ≡ of_each 1 }
-        ensures amounts { result.amounts ≡ self.told.made }
+        ensures amounts { result.amounts ≡ self.counted.made }
     {
         let Pass {
             number: _,
@@ -161,7 +161,7 @@ impl<K: Ledgers> Shares<K> {
     pub fn cut(&mut self, number: u64) -> Pass<K>
         requires none { self.old.amounts ≡ of_each 0 }
         requires some { AtMost (of_each 2) self.old.parts }
-        ensures pass { result ≡ record { number = number; told = new_pass; holder = new_holder } }
+        ensures pass { result ≡ record { number = number; counted = new_pass; holder = new_holder } }
         ensures parts { sum_of self.new.parts (of_each 1) ≡ self.old.parts }
         ensures amounts { self.new.amounts ≡ self.old.amounts }
     {

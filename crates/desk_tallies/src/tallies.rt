@@ -188,8 +188,8 @@ impl<K: Ledgers> Tallies<K> {
         requires more { AtMost self.old (made_of to) }
         ensures count { self.new ≡ made_of to }
         ensures number { pass.new.number ≡ pass.old.number }
-        ensures made { sum_of pass.new.told.made self.old ≡ sum_of pass.old.told.made (made_of to) }
-        ensures broken { pass.new.told.is_broken ≡ (breaks || pass.old.told.is_broken) }
+        ensures made { sum_of pass.new.counted.made self.old ≡ sum_of pass.old.counted.made (made_of to) }
+        ensures broken { pass.new.counted.is_broken ≡ (breaks || pass.old.counted.is_broken) }
         ensures holder { pass.new.holder ≡ holder }
     {
         self.follow(&mut pass.shares, to);
@@ -201,7 +201,7 @@ impl<K: Ledgers> Tallies<K> {
     pub fn compare(&mut self, pass: &mut Pass<K>)
         ensures same { self.new ≡ self.old }
         ensures pass { pass.new ≡ pass.old }
-        ensures bound { AtMost pass.old.told.made self.old }
+        ensures bound { AtMost pass.old.counted.made self.old }
     {
         self.audit(&mut pass.shares);
     }

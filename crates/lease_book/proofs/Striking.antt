@@ -10,11 +10,11 @@ use Rattle.book_model.specs.Outcomes.{Answer, Event, apply, at_clock, cancels, c
 use Rattle.book_model.specs.Outcomes.Event.{Arrive, Ask, Take, GiveBack, Lost, StartFailed, Leave, Tick, Makes, Keyed, Cancel, EndLease, HungUp}
 use Rattle.book_model.specs.Places.{IsPlaceOf}
 use Rattle.book_model.specs.declared.counts.Kind.{Kind}
-use Rattle.book_model.specs.declared.events.Reply.{Reply as ListsReply}
+use Rattle.book_model.specs.declared.events.Reply.{Reply}
 use Rattle.book_model.specs.declared.events.Reply.TheVariants as told
 use Rattle.lease_book.specs.Links.{StrikesInPlace, can_strike, has_place, may_hand_back, reply_of}
-use Rattle.lease_book.specs.declared.events.Reply.{Reply}
-use Rattle.lease_book.specs.declared.events.Reply.TheVariants as reply
+use Rattle.lease_book.specs.declared.events.BookReply.{BookReply}
+use Rattle.lease_book.specs.declared.events.BookReply.TheVariants as reply
 
 -- ---- the link that is found
 
@@ -35,7 +35,7 @@ in_place b n key host e h = at (find (is_link n) b.lent) refl e
 
 -- ---- a strike leaves the lent links as they are, and its own has a place
 
-abbrev Struck : Book → Book → ListsReply → Type 0
+abbrev Struck : Book → Book → Reply → Type 0
 Struck b new (told.Strike n server) = (new.lent ≡ b.lent) × (has_place (find (is_link n) b.lent) ≡ true)
 Struck b new _ = Unit {0}
 
@@ -108,7 +108,7 @@ by_outcome b (Cancel client) = by_cancels b (find (is_of_client client) b.keyed)
 by_outcome b (EndLease n) = by_end b (outcome b (EndLease n)).book (list_any (is_number n) b.marked)
 by_outcome b (HungUp n) = by_hangs_up b (find (is_link n) b.idle)
 
-when_counted : (b new : Book) (k : Option Kind) (r : ListsReply) → Struck b new r → Struck b (counted new k) r
+when_counted : (b new : Book) (k : Option Kind) (r : Reply) → Struck b new r → Struck b (counted new k) r
 when_counted b new None r s = s
 when_counted b new (Some k) (told.Strike n server) s = s
 when_counted b new (Some k) _ s = tt
@@ -119,12 +119,12 @@ by_apply b e =
     both b (b.decisions == last_decision) _ _ tt
     (both b (is_strange b e) _ _ tt (when_counted b (outcome b e).book (kind_of b e (outcome b e).reply) (outcome b e).reply (by_outcome b e)))
 
-struck : (b lists : Book) (e : Event) (r : ListsReply) → lists ≡ (apply b e).book → r ≡ (apply b e).reply → Struck b lists r
-struck b lists e r is told_is = subst (λ (x : Book). Struck b x r) (sym is) (subst (λ (x : ListsReply). Struck b (apply b e).book x) (sym told_is) (by_apply b e))
+struck : (b lists : Book) (e : Event) (r : Reply) → lists ≡ (apply b e).book → r ≡ (apply b e).reply → Struck b lists r
+struck b lists e r is told_is = subst (λ (x : Book). Struck b x r) (sym is) (subst (λ (x : Reply). Struck b (apply b e).book x) (sym told_is) (by_apply b e))
 
 -- ---- as the book goes on
 
-pub may_strike : (b lists at : Book) (e : Event) (r : ListsReply) → at ≡ lists → lists ≡ (apply b e).book → r ≡ (apply b e).reply → can_strike at r ≡ true
+pub may_strike : (b lists at : Book) (e : Event) (r : Reply) → at ≡ lists → lists ≡ (apply b e).book → r ≡ (apply b e).reply → can_strike at r ≡ true
 may_strike b lists at e r same is told_is =
     elim r as (λ x. Struck b lists x → can_strike at x ≡ true) [
       | told.Strike n server ↦ λ s. ap (λ (x : Book). has_place (find (is_link n) x.lent)) same ∙ (ap (λ (l : List Link). has_place (find (is_link n) l)) s.0 ∙ s.1)
@@ -133,7 +133,7 @@ may_strike b lists at e r same is told_is =
 
 module _ {E : Type 0} where
   -- a strike's link was lent before, with this place
-  pub place_before : (b lists at : Book) (e : Event) (x : ListsReply) (r : Reply E) → at ≡ lists → lists ≡ (apply b e).book → x ≡ (apply b e).reply → reply_of r ≡ x → StrikesInPlace at r → StrikesInPlace b r
+  pub place_before : (b lists at : Book) (e : Event) (x : Reply) (r : BookReply E) → at ≡ lists → lists ≡ (apply b e).book → x ≡ (apply b e).reply → reply_of r ≡ x → StrikesInPlace at r → StrikesInPlace b r
   place_before b lists at e x r same is told_is answer =
       elim r as (λ q. Struck b lists (reply_of q) → StrikesInPlace at q → StrikesInPlace b q) [
         | reply.Strike n server host port ↦ λ s p. record { key = p.key; is_lent = subst (HasLink n p.key) (ap (λ (y : Book). y.lent) same ∙ s.0) p.is_lent; host_is = p.host_is; port_is = p.port_is }
@@ -141,7 +141,7 @@ module _ {E : Type 0} where
       ] (struck b lists e (reply_of r) is (answer ∙ told_is))
 
   -- a link that is handed back strikes nobody
-  pub back_in_place : (b : Book) (n : ℕ) (r : Reply E) (x : ListsReply) → reply_of r ≡ x → may_hand_back n x ≡ true → StrikesInPlace b r
+  pub back_in_place : (b : Book) (n : ℕ) (r : BookReply E) (x : Reply) → reply_of r ≡ x → may_hand_back n x ≡ true → StrikesInPlace b r
   back_in_place b n r x is back =
       elim r as (λ q. may_hand_back n (reply_of q) ≡ true → StrikesInPlace b q) [
         | reply.Strike m server host port ↦ λ h. cc

@@ -17,11 +17,11 @@ ghost use Rattle.lease_book.specs.Histories.{LeadsTo};
 ghost use Rattle.lease_book.specs.Shown.{as_shown, decisions_shown};
 ghost use Rattle.lease_book.specs.Links.{answered, can_strike, found, goes_out, handed, handed_after, handed_back, has_place, history_after, idle_after, idle_with, is_done, StrikesInPlace, may_hand_back, number_of, reply_of};
 
-use crate::events::{Event, Reply};
+use crate::events::{BookEvent, BookReply};
 use crate::history::{Decision, History};
 use crate::idle::IdleLinks;
 use crate::kept_event::KeptEvent;
-use book_model::events as lists;
+use book_model::events::Reply;
 use book_model::limits::Limits;
 use book_register::book_state::BookState;
 use book_register::view::BookView;
@@ -35,13 +35,13 @@ use std::marker::Model;
 use std::sync::Arc;
 
 /// The number of the idle link that goes out with a reply.
-fn goes_out(told: lists::Reply) -> Option<u64>
+fn goes_out(told: Reply) -> Option<u64>
     ensures { result ≡ goes_out told }
 {
     match told {
-        lists::Reply::Lend(link) => Some(link),
-        lists::Reply::Close(link) => Some(link),
-        lists::Reply::Start { evicted, .. } => evicted,
+        Reply::Lend(link) => Some(link),
+        Reply::Close(link) => Some(link),
+        Reply::Start { evicted, .. } => evicted,
         _ => None,
     }
 }
@@ -58,7 +58,7 @@ fn place_of(lists: &BookState, number: u64) -> Option<(Host, u16)>
 }
 
 /// The strike at the place of its link, which is lent.
-fn strike<E: ServerEnd>(lists: &BookState, number: u64, server: KeyView) -> Reply<E>
+fn strike<E: ServerEnd>(lists: &BookState, number: u64, server: KeyView) -> BookReply<E>
     requires kept { Kept lists.now }
     requires place { has_place (find (is_link number) lists.now.lent) ≡ true }
     ensures reply { reply_of result ≡ Strike number server }
@@ -68,7 +68,7 @@ fn strike<E: ServerEnd>(lists: &BookState, number: u64, server: KeyView) -> Repl
     let Some((host, port)) = place_of(lists, number) else {
         unreachable!()
     };
-    Reply::Strike {
+    BookReply::Strike {
         number,
         server,
         host,
@@ -79,9 +79,9 @@ fn strike<E: ServerEnd>(lists: &BookState, number: u64, server: KeyView) -> Repl
 /// The reply, with the link that goes out with it. A strike's place is that of its link in the lists.
 fn reply_with<E: ServerEnd>(
     lists: &BookState,
-    told: lists::Reply,
+    told: Reply,
     link: Option<CleanLink<E>>,
-) -> Reply<E>
+) -> BookReply<E>
     requires number { number_of link ≡ goes_out told }
     requires kept { Kept lists.now }
     requires place { can_strike lists.now told ≡ true }
@@ -90,54 +90,54 @@ fn reply_with<E: ServerEnd>(
     ensures link { handed result ≡ link }
 {
     match (told, link) {
-        (lists::Reply::Lend(_), Some(link)) => Reply::Lend(link),
-        (lists::Reply::Close(_), Some(link)) => Reply::Close(link),
+        (Reply::Lend(_), Some(link)) => BookReply::Lend(link),
+        (Reply::Close(_), Some(link)) => BookReply::Close(link),
         (
-            lists::Reply::Start {
+            Reply::Start {
                 link,
                 started_at,
                 ..
             },
             evicted,
-        ) => Reply::Start {
+        ) => BookReply::Start {
             number: link,
             started_at,
             evicted,
         },
-        (lists::Reply::Arrived(client), _) => Reply::Client(client),
-        (lists::Reply::Queued(before), _) => Reply::Queued(before),
-        (lists::Reply::Refuse(refusal), _) => Reply::Refuse(refusal, None),
-        (lists::Reply::Done, _) => Reply::Done,
-        (lists::Reply::Stranger, _) => Reply::Stranger(None),
-        (lists::Reply::Strike { link, server }, _) => strike(lists, link, server),
-        (lists::Reply::Nobody, _) => Reply::Nobody,
-        (lists::Reply::Reset, _) => Reply::Reset,
-        (lists::Reply::Dispose, _) => Reply::Dispose,
+        (Reply::Arrived(client), _) => BookReply::Client(client),
+        (Reply::Queued(before), _) => BookReply::Queued(before),
+        (Reply::Refuse(refusal), _) => BookReply::Refuse(refusal, None),
+        (Reply::Done, _) => BookReply::Done,
+        (Reply::Stranger, _) => BookReply::Stranger(None),
+        (Reply::Strike { link, server }, _) => strike(lists, link, server),
+        (Reply::Nobody, _) => BookReply::Nobody,
+        (Reply::Reset, _) => BookReply::Reset,
+        (Reply::Dispose, _) => BookReply::Dispose,
         _ => unreachable!(),
     }
 }
 
 /// Whether a link that was given back is kept.
-fn is_done(told: lists::Reply) -> bool
+fn is_done(told: Reply) -> bool
     ensures { result ≡ is_done told }
 {
     match told {
-        lists::Reply::Done => true,
+        Reply::Done => true,
         _ => false,
     }
 }
 
 /// The reply, with the link that is handed back.
 #[tactic(auto, using(crate::proofs::Returns::same_number))]
-fn back_with<E: ServerEnd>(told: lists::Reply, link: CleanLink<E>) -> Reply<E>
+fn back_with<E: ServerEnd>(told: Reply, link: CleanLink<E>) -> BookReply<E>
     requires { may_hand_back link.number told ≡ true }
     ensures reply { reply_of result ≡ told }
     ensures link { handed result ≡ Some link }
 {
     match told {
-        lists::Reply::Close(_) => Reply::Close(link),
-        lists::Reply::Refuse(refusal) => Reply::Refuse(refusal, Some(link)),
-        lists::Reply::Stranger => Reply::Stranger(Some(link)),
+        Reply::Close(_) => BookReply::Close(link),
+        Reply::Refuse(refusal) => BookReply::Refuse(refusal, Some(link)),
+        Reply::Stranger => BookReply::Stranger(Some(link)),
         _ => unreachable!(),
     }
 }
@@ -260,7 +260,7 @@ impl<E: ServerEnd> Book<E> {
 
     /// A link comes back.
     #[tactic(auto, using(crate::proofs::Returns::done_kept, crate::proofs::Striking::back_in_place))]
-    fn give_back(&mut self, pass: u64, link: CleanLink<E>) -> Reply<E>
+    fn give_back(&mut self, pass: u64, link: CleanLink<E>) -> BookReply<E>
         ensures kept { Kept self.new.lists }
         ensures lists { self.new.lists ≡ (apply_return self.old.lists link.number link.key link.started_at).book }
         ensures history { self.new.history ≡ cond (is_started_as link.key link.started_at (find (is_link link.number) self.old.lists.lent)) (noted_of self.old.lists pass (GiveBack link.number) self.old.history) self.old.history }
@@ -280,13 +280,13 @@ impl<E: ServerEnd> Book<E> {
             .note(is_decision, Decision { pass, event, reply });
         if is_done(reply) {
             self.idle.push(link);
-            return Reply::Done;
+            return BookReply::Done;
         }
         back_with(reply, link)
     }
 
     /// What an event makes of the book, and its reply. A decision is kept. It needs no memory.
-    pub fn apply(&mut self, pass: u64, event: Event<E>) -> Reply<E>
+    pub fn apply(&mut self, pass: u64, event: BookEvent<E>) -> BookReply<E>
         ensures kept { Kept self.new.lists }
         ensures lists { self.new.lists ≡ (answered self.old.lists event).book }
         ensures history { self.new.history ≡ history_after self.old.lists pass event self.old.history }
@@ -296,8 +296,8 @@ impl<E: ServerEnd> Book<E> {
         ensures handed { handed result ≡ handed_after event (answered self.old.lists event).reply self.old.idle }
     {
         match event {
-            Event::GiveBack(link) => self.give_back(pass, link),
-            Event::Plain(plain) => {
+            BookEvent::GiveBack(link) => self.give_back(pass, link),
+            BookEvent::Plain(plain) => {
                 let event = KeptEvent::of(&plain);
                 let before = self.lists.decisions();
                 let reply = self.lists.apply(plain);

@@ -1,5 +1,5 @@
 //! What can happen to the lease book, and what it answers, with the links themselves.
-use book_model::events as lists;
+use book_model::events::Event;
 use link_run::links::CleanLink;
 use message_view::{KeyView, Refusal};
 use server_end::ServerEnd;
@@ -7,16 +7,16 @@ use start_keys::Host;
 
 /// What happens to the book.
 #[derive(Drop)]
-pub enum Event<E: ServerEnd> {
+pub enum BookEvent<E: ServerEnd> {
     /// A client has given its link back clean.
     GiveBack(CleanLink<E>),
     /// Any other event: no link comes with it.
-    Plain(lists::Event),
+    Plain(Event),
 }
 
 /// What the book answers. A link that leaves the book, or isn't kept, comes with the reply.
 #[derive(Drop)]
-pub enum Reply<E: ServerEnd> {
+pub enum BookReply<E: ServerEnd> {
     /// The client that has come has this number.
     Client(u64),
     /// The client waits behind this many of its pool.

@@ -51,21 +51,21 @@ pub trait LinkDesk {
     ghost home: { HomeOf };
 
     /// The decisions that were made through a pass.
-    ghost told: { Self.Pass → PassOf };
+    ghost counted: { Self.Pass → PassOf };
 
     ghost holder: { Self.Pass → Holder };
 
     /// A client has come, which may use so many places beyond the limit.
     fn arrive(&self, pass: &mut Self::Pass, beyond: Beyond) -> Arrival
         requires free { (holder pass.old).client ≡ None }
-        ensures told { told pass.new ≡ after_arrival (told pass.old) result }
+        ensures counted { counted pass.new ≡ after_arrival (counted pass.old) result }
         ensures holder { holder pass.new ≡ arrived beyond (holder pass.old) result }
         ensures refused { MayArrive result };
 
     /// The client is through its login, and asks for a link of this key.
     fn ask(&self, pass: &mut Self::Pass, key: &Arc<StartKey>) -> Asked
         requires here { IsSome (holder pass.old).client }
-        ensures told { told pass.new ≡ after_asking (told pass.old) result }
+        ensures counted { counted pass.new ≡ after_asking (counted pass.old) result }
         ensures holder { holder pass.new ≡ asked_by (holder pass.old) result }
         ensures refused { MayAsk result };
 
@@ -74,7 +74,7 @@ pub trait LinkDesk {
         requires here { IsSome (holder pass.old).client }
         requires none { (holder pass.old).lease ≡ None }
         ensures book { IfSome (holder pass.old).client (λ client. (b : Book) × (Kept b × IsAnswerToTake (apply b (Take client)).reply result)) }
-        ensures told { told pass.new ≡ after_grant (told pass.old) result }
+        ensures counted { counted pass.new ≡ after_grant (counted pass.old) result }
         ensures holder { holder pass.new ≡ taken (holder pass.old) result }
         ensures refused { MayTake result }
         ensures home { IsGrantAtHome home result };
@@ -82,26 +82,26 @@ pub trait LinkDesk {
     /// From now on a cancel with the client's key word finds the client's lease, whose server told that other key word.
     fn keyed(&self, pass: &mut Self::Pass, client: KeyView, server: KeyView) -> Keying
         requires granted { stage_of (holder pass.old) ≡ Some Granted }
-        ensures told { told pass.new ≡ after_keying (told pass.old) result }
+        ensures counted { counted pass.new ≡ after_keying (counted pass.old) result }
         ensures holder { holder pass.new ≡ keyed_lease client server (holder pass.old) result };
 
     /// The client's lease has ended: no cancel finds it any more. Only where none found it before may its link go to another client.
     fn end_lease(&self, pass: &mut Self::Pass) -> Release
         requires open { is_open (holder pass.old) ≡ true }
-        ensures told { told pass.new ≡ after_release (told pass.old) result }
+        ensures counted { counted pass.new ≡ after_release (counted pass.old) result }
         ensures holder { holder pass.new ≡ released (holder pass.old) result };
 
     /// Finds the lease of the client of this key word, whatever client that is, for which somebody asks to have its statement cancelled.
     fn cancel(&self, pass: &mut Self::Pass, client: KeyView) -> Cancelled
         ensures book { (b : Book) × (Kept b × IsAnswerToCancel b client result) }
-        ensures told { told pass.new ≡ after_cancel (told pass.old) result }
+        ensures counted { counted pass.new ≡ after_cancel (counted pass.old) result }
         ensures holder { holder pass.new ≡ cancelling client (holder pass.old) result };
 
     /// Sends the cancel that was found on its way to the link's server, and waits until that has closed the connection on which it came,
     /// or for some seconds.
     fn strike(&self, pass: &mut Self::Pass, strike: &Strike)
         requires found { (holder pass.old).found ≡ Some (target_of strike.now) }
-        ensures told { told pass.new ≡ told pass.old }
+        ensures counted { counted pass.new ≡ counted pass.old }
         ensures holder { holder pass.new ≡ striking (holder pass.old) };
 
     /// Takes the client's link back, clean, after its lease has ended without a cancel; or leaves it there to be closed.
@@ -109,20 +109,20 @@ pub trait LinkDesk {
         requires here { IsSome link.old }
         requires own { IfSome link.old (λ l. (holder pass.old).lease ≡ Some (ended_lease l)) }
         requires home { IfSome link.old (λ l. IsAtHome home l) }
-        ensures told { told pass.new ≡ after_back (told pass.old) result }
+        ensures counted { counted pass.new ≡ after_back (counted pass.old) result }
         ensures holder { holder pass.new ≡ without_lease GiveBack (holder pass.old) }
         ensures link { link.new ≡ keeps result link.old };
 
     /// The client's link has been closed.
     fn lost(&self, pass: &mut Self::Pass) -> Gone
         requires here { IsSome (holder pass.old).lease }
-        ensures told { told pass.new ≡ after_loss (told pass.old) result }
+        ensures counted { counted pass.new ≡ after_loss (counted pass.old) result }
         ensures holder { holder pass.new ≡ without_lease Lost (holder pass.old) };
 
     /// The client's link, which was to be started, could not be.
     fn start_failed(&self, pass: &mut Self::Pass) -> Gone
         requires here { IsSome (holder pass.old).lease }
-        ensures told { told pass.new ≡ after_loss (told pass.old) result }
+        ensures counted { counted pass.new ≡ after_loss (counted pass.old) result }
         ensures holder { holder pass.new ≡ without_lease StartFailed (holder pass.old) };
 
     /// Waits for a while, behind those who wait for the same, until a link of this key's pool comes back or goes: the client's server had no
@@ -135,7 +135,7 @@ pub trait LinkDesk {
         _seconds: u32,
     ) -> Place
         requires here { IsSome (holder _pass.old).client }
-        ensures told { told _pass.new ≡ told _pass.old }
+        ensures counted { counted _pass.new ≡ counted _pass.old }
         ensures holder { holder _pass.new ≡ holder _pass.old }
     {
         Place::Nowhere
@@ -145,7 +145,7 @@ pub trait LinkDesk {
     fn leave(&self, pass: &mut Self::Pass) -> Gone
         requires here { IsSome (holder pass.old).client }
         requires none { (holder pass.old).lease ≡ None }
-        ensures told { told pass.new ≡ after_leaving (told pass.old) result }
+        ensures counted { counted pass.new ≡ after_leaving (counted pass.old) result }
         ensures holder { holder pass.new ≡ left (holder pass.old) };
 
     /// A new end of this key's server for the link of this number, which waits for its StartupMessage, by this credential; `None` where it
@@ -164,8 +164,8 @@ pub trait LinkDesk {
     /// `AllocError` where memory is refused.
     fn view(&self, alloc: Global, pass: &mut Self::Pass) -> Result<BookView, AllocError>
         ensures view { IfOk result (λ v. (b : Book) × (Kept b × (v ≡ view_of b))) }
-        ensures at_least { IfOk result (λ v. AtMost (told pass.old).made (class_counts v.counts)) }
-        ensures told { told pass.new ≡ told pass.old }
+        ensures at_least { IfOk result (λ v. AtMost (counted pass.old).made (class_counts v.counts)) }
+        ensures counted { counted pass.new ≡ counted pass.old }
         ensures holder { holder pass.new ≡ holder pass.old };
 
     /// What is known beside the book. Nothing is claimed of it.
@@ -180,27 +180,27 @@ pub trait LinkDesk {
 
     /// No link is lent until [`LinkDesk::resume`].
     fn pause(&self, pass: &mut Self::Pass) -> Changed
-        ensures told { told pass.new ≡ after_change (told pass.old) result }
+        ensures counted { counted pass.new ≡ after_change (counted pass.old) result }
         ensures holder { holder pass.new ≡ record (holder pass.old) { last = Some call.Pause } };
 
     /// Links are lent again.
     fn resume(&self, pass: &mut Self::Pass) -> Changed
-        ensures told { told pass.new ≡ after_change (told pass.old) result }
+        ensures counted { counted pass.new ≡ after_change (counted pass.old) result }
         ensures holder { holder pass.new ≡ record (holder pass.old) { last = Some call.Resume } };
 
     /// No client is let in and no link lent any more.
     fn shutdown(&self, pass: &mut Self::Pass) -> Changed
-        ensures told { told pass.new ≡ after_change (told pass.old) result }
+        ensures counted { counted pass.new ≡ after_change (counted pass.old) result }
         ensures holder { holder pass.new ≡ record (holder pass.old) { last = Some call.Shutdown } };
 
     /// No link that is there now is lent again: those that are idle are closed by the next ticks, those that are lent at their return.
     fn reconnect(&self, pass: &mut Self::Pass) -> Changed
-        ensures told { told pass.new ≡ after_change (told pass.old) result }
+        ensures counted { counted pass.new ≡ after_change (counted pass.old) result }
         ensures holder { holder pass.new ≡ record (holder pass.old) { last = Some call.Reconnect } };
 
     /// These limits hold from now on.
     fn limits(&self, pass: &mut Self::Pass, limits: Arc<Limits>) -> Changed
-        ensures told { told pass.new ≡ after_change (told pass.old) result }
+        ensures counted { counted pass.new ≡ after_change (counted pass.old) result }
         ensures holder { holder pass.new ≡ record (holder pass.old) { last = Some call.Limits } };
 
     /// Reads the files of settings and users again, once no earlier reading of them is unsettled: the limits of the settings. Nothing of
@@ -209,11 +209,11 @@ pub trait LinkDesk {
     fn reload(&self) -> Option<Arc<Limits>>;
 
     /// The limits that were read were answered so, by the pass's last call. Where the book keeps them, all that was read holds for later
-    /// clients from now on, and the log is told so; else it is forgotten.
+    /// clients from now on, and the log says so; else it is forgotten.
     fn settle(&self, pass: &Self::Pass, changed: Changed)
         requires limits { (holder pass.now).last ≡ Some call.Limits }
-        requires answered { IsAfterChange changed (told pass.now) };
+        requires answered { IsAfterChange changed (counted pass.now) };
 
-    /// Tells the log. It waits for no reader of it.
+    /// Logs a note. It waits for no reader of the log.
     fn note(&self, client: &Client<'_>, note: &Note<'_>);
 }

@@ -6,9 +6,9 @@ use Rattle.session_values.specs.State.{CatalogueOf, StartKeyOf}
 use Rattle.start_keys.specs.Keys.{same_key}
 use Rattle.start_keys.specs.SameKeys.{same_keys-one}
 use Rattle.link_run.specs.Links.{LinkView}
-use Rattle.book_model.specs.declared.events.Reply.{Reply as ListsReply}
-use Rattle.lease_book.specs.declared.events.Event.{Event}
-use Rattle.lease_book.specs.declared.events.Event.TheVariants as event
+use Rattle.book_model.specs.declared.events.Reply.{Reply}
+use Rattle.lease_book.specs.declared.events.BookEvent.{BookEvent}
+use Rattle.lease_book.specs.declared.events.BookEvent.TheVariants as event
 use Rattle.lease_book.specs.Links.{found, goes_out, handed_after, idle_after, is_done, is_numbered, left}
 use Rattle.memory_pool.specs.MemoryPools.{AreAtHome, IsAtHome, IsBroughtHome}
 
@@ -33,11 +33,11 @@ one-back cat l true k = tt
 one-back cat l false k = k
 
 module _ {E : Type 0} where
-  pub stays_home : (cat : CatalogueOf) (e : Event E) (r : ListsReply) (idle : List LinkView) → IsBroughtHome cat e → AreAtHome cat idle → AreAtHome cat (idle_after e r idle)
+  pub stays_home : (cat : CatalogueOf) (e : BookEvent E) (r : Reply) (idle : List LinkView) → IsBroughtHome cat e → AreAtHome cat idle → AreAtHome cat (idle_after e r idle)
   stays_home cat (event.GiveBack l) r idle k h = all-with cat l (is_done r) idle k h
   stays_home cat (event.Plain e) r idle k h = all-left cat (goes_out r) idle h
 
-  pub handed_home : (cat : CatalogueOf) (e : Event E) (r : ListsReply) (idle : List LinkView) → IsBroughtHome cat e → AreAtHome cat idle → IfSome (handed_after e r idle) (IsAtHome cat)
+  pub handed_home : (cat : CatalogueOf) (e : BookEvent E) (r : Reply) (idle : List LinkView) → IsBroughtHome cat e → AreAtHome cat idle → IfSome (handed_after e r idle) (IsAtHome cat)
   handed_home cat (event.GiveBack l) r idle k h = one-back cat l (is_done r) k
   handed_home cat (event.Plain e) r idle k h = all-found cat (goes_out r) idle h
 

@@ -16,8 +16,8 @@ use Rattle.link_start.specs.declared.start.StartCause.TheVariants as cause
 use Rattle.link_start.specs.declared.start.StartRefusal.{StartRefusal}
 use Rattle.link_start.specs.declared.start.StartRefusal.TheVariants as told
 use Rattle.link_start.specs.Refusing.{refusal_of}
-use Rattle.lease_book.specs.declared.events.Event.{Event}
-use Rattle.lease_book.specs.declared.events.Event.TheVariants as event
+use Rattle.lease_book.specs.declared.events.BookEvent.{BookEvent}
+use Rattle.lease_book.specs.declared.events.BookEvent.TheVariants as event
 use Rattle.memory_pool.specs.declared.answers.Taken.{Taken}
 use Rattle.memory_pool.specs.declared.answers.Taken.TheVariants as taken
 
@@ -56,7 +56,7 @@ pub record IsMemoryPool (h : MemoryPoolOf) (cut : ℕ) (idle : List LinkView) : 
   pub home : AreAtHome h.catalogue idle
 
 -- a link that comes back
-abbrev pub IsBroughtHome : {E : Type 0} → CatalogueOf → Event E → Type 0
+abbrev pub IsBroughtHome : {E : Type 0} → CatalogueOf → BookEvent E → Type 0
 IsBroughtHome cat (event.GiveBack l) = IsAtHome cat l
 IsBroughtHome cat (event.Plain e) = Unit {0}
 

@@ -15,8 +15,8 @@ use book_model::settings::limits_of;
 use credentials::Credential;
 use ini_config::Settings;
 use lease_book::book::Book;
-use lease_book::events::Event::{GiveBack, Plain};
-use lease_book::events::{Event as BookEvent, Reply};
+use lease_book::events::BookEvent::{GiveBack, Plain};
+use lease_book::events::{BookEvent, BookReply};
 use link_run::links::{CleanLink, UsedLink};
 use link_run::reset::reset_link;
 use link_start::close::close_link;
@@ -160,7 +160,7 @@ impl MemoryPool {
 
     /// What the book answers to an event.
     #[tactic(auto, using(crate::proofs::Homes::stays_home, crate::proofs::Homes::handed_home))]
-    fn tell(&mut self, event: BookEvent<MemoryServer>) -> Reply<MemoryServer>
+    fn tell(&mut self, event: BookEvent<MemoryServer>) -> BookReply<MemoryServer>
         requires home { IsBroughtHome self.old.catalogue event }
         ensures same { self.new ≡ self.old }
         ensures home { IfSome (handed result) (IsAtHome self.old.catalogue) }
@@ -174,8 +174,8 @@ impl MemoryPool {
     {
         let beyond = Beyond::Nothing;
         match self.tell(Plain(Event::Arrive { beyond })) {
-            Reply::Client(number) => Answer::Number(number),
-            Reply::Refuse(refusal, _) => Answer::Refused(refusal),
+            BookReply::Client(number) => Answer::Number(number),
+            BookReply::Refuse(refusal, _) => Answer::Refused(refusal),
             _ => Answer::Strange,
         }
     }
@@ -187,8 +187,8 @@ impl MemoryPool {
     {
         let key = Arc::try_clone(key)?;
         match self.tell(Plain(Event::Ask { client, key })) {
-            Reply::Queued(before) => Ok(Answer::Number(before)),
-            Reply::Refuse(refusal, _) => Ok(Answer::Refused(refusal)),
+            BookReply::Queued(before) => Ok(Answer::Number(before)),
+            BookReply::Refuse(refusal, _) => Ok(Answer::Refused(refusal)),
             _ => Ok(Answer::Strange),
         }
     }
@@ -200,8 +200,8 @@ impl MemoryPool {
         ensures taken { IfOk result (IsTaken self.old.catalogue (arc_value key.now)) }
     {
         match self.tell(Plain(Event::Take { client })) {
-            Reply::Lend(link) => Ok(self.lent(link, key)),
-            Reply::Start {
+            BookReply::Lend(link) => Ok(self.lent(link, key)),
+            BookReply::Start {
                 number,
                 started_at,
                 evicted,
@@ -211,8 +211,8 @@ impl MemoryPool {
                 }
                 self.start(key, number, started_at)
             }
-            Reply::Queued(_) => Ok(Taken::Waits),
-            Reply::Refuse(refusal, _) => Ok(Taken::Refused(refusal)),
+            BookReply::Queued(_) => Ok(Taken::Waits),
+            BookReply::Refuse(refusal, _) => Ok(Taken::Refused(refusal)),
             _ => Ok(Taken::Strange),
         }
     }
@@ -316,7 +316,7 @@ impl MemoryPool {
         ensures { self.new ≡ self.old }
     {
         match self.tell(GiveBack(link)) {
-            Reply::Close(link) | Reply::Refuse(_, Some(link)) | Reply::Stranger(Some(link)) => {
+            BookReply::Close(link) | BookReply::Refuse(_, Some(link)) | BookReply::Stranger(Some(link)) => {
                 close_link(link);
             }
             _ => {}
@@ -363,7 +363,7 @@ impl MemoryPool {
     {
         for _ in 0..u64::MAX {
             match self.tell(Plain(Event::Tick { now })) {
-                Reply::Close(link) => {
+                BookReply::Close(link) => {
                     close_link(link);
                 }
                 _ => return,

@@ -1,7 +1,7 @@
 //! A lease book, and what is known beside it, as they are handed to whoever tells of them.
 use book_model::events::ClientState;
 use book_model::limits::Limits;
-use book_model::rows::{Row, Rows};
+use book_model::rows::{DatabaseRow, DatabaseRows};
 use book_register::book_state::BookState;
 use book_register::view::BookView;
 use book_rows::clients::Client;
@@ -29,8 +29,8 @@ fn row(
     port: u16,
     dbname: &[u8],
     size: u32,
-) -> Result<Row, AllocError> {
-    Ok(Row {
+) -> Result<DatabaseRow, AllocError> {
+    Ok(DatabaseRow {
         name: Text::from_slice(alloc, name)?,
         host: host(at),
         port,
@@ -50,7 +50,7 @@ fn limits(alloc: Global) -> Result<Arc<Limits>, AllocError> {
         query_wait_timeout: 0,
         server_lifetime: 3_600,
         server_idle_timeout: 0,
-        rows: Rows::new(alloc, rows)?,
+        rows: DatabaseRows::new(alloc, rows)?,
     };
     Ok(Arc::new(alloc, limits)?)
 }

@@ -7,7 +7,7 @@ ghost use Rattle.monitor_core.specs.Tables as spec;
 use crate::addresses::address;
 use crate::rows::Row;
 use book_model::events::ClientState;
-use book_model::rows::Row as DatabaseRow;
+use book_model::rows::DatabaseRow;
 use book_register::view::BookView;
 use book_rows::clients::Client;
 use book_rows::links::Link;

@@ -5,8 +5,8 @@ use crate::told::{put_numbers, put_unless};
 use book_model::events::{Beyond, Event};
 use book_register::view::BookView;
 use lease_book::book::Book;
-use lease_book::events::Event::{GiveBack, Plain};
-use lease_book::events::Reply;
+use lease_book::events::BookEvent::{GiveBack, Plain};
+use lease_book::events::BookReply;
 use link_run::links::{CleanLink, LinkParts};
 use memory_ends::gone_end::GoneEnd;
 use memory_start_laws::unfollowed_starts_are_clean;
@@ -25,7 +25,7 @@ fn empty(alloc: Global) -> Result<Book<GoneEnd>, AllocError> {
     }
 }
 
-fn happens(book: &mut Book<GoneEnd>, event: Event) -> Reply<GoneEnd> {
+fn happens(book: &mut Book<GoneEnd>, event: Event) -> BookReply<GoneEnd> {
     book.apply(0, Plain(event))
 }
 
@@ -34,7 +34,7 @@ fn comes(book: &mut Book<GoneEnd>, key: &Arc<StartKey>) -> Result<u64, AllocErro
     let arrival = Event::Arrive {
         beyond: Beyond::Nothing,
     };
-    let Reply::Client(client) = happens(book, arrival) else {
+    let BookReply::Client(client) = happens(book, arrival) else {
         return Err(AllocError);
     };
     let key = Arc::try_clone(key)?;
@@ -68,7 +68,7 @@ fn started(
     key: &Arc<StartKey>,
     client: u64,
 ) -> Result<CleanLink<GoneEnd>, AllocError> {
-    let Reply::Start {
+    let BookReply::Start {
         number,
         started_at,
         ..

@@ -8,7 +8,7 @@ ghost use Rattle.oom_probe.specs.Keys.{anns_key};
 use crate::KEY_WORD;
 use crate::files::catalogue;
 use book_model::limits::Limits;
-use book_model::rows::{Row, Rows};
+use book_model::rows::{DatabaseRow, DatabaseRows};
 use memory_ends::memory_server::{MemoryServer, ServerAuth};
 use memory_start_laws::memory_servers_can_start;
 use session_values::text::Text;
@@ -65,8 +65,8 @@ pub fn server(alloc: Global) -> Result<MemoryServer, AllocError>
 }
 
 /// The database shop, for pools of two links.
-fn rows(alloc: Global) -> Result<Rows, AllocError> {
-    let shop = Row {
+fn rows(alloc: Global) -> Result<DatabaseRows, AllocError> {
+    let shop = DatabaseRow {
         name: Text::from_slice(alloc, b"shop")?,
         host: Host::local(),
         port: 5432,
@@ -75,7 +75,7 @@ fn rows(alloc: Global) -> Result<Rows, AllocError> {
     };
     let mut rows = Vec::new(alloc);
     rows.push(shop)?;
-    Rows::new(alloc, rows)
+    DatabaseRows::new(alloc, rows)
 }
 
 /// Ten clients, four links, and times that aren't reached.

@@ -19,8 +19,8 @@ use Rattle.book_model.specs.declared.events.Reply.TheVariants.{Refuse, Done, Str
 use Rattle.book_model.proofs.Changing.{with_any_settings}
 use Rattle.book_model.proofs.KeepingLists.{not_found}
 use Rattle.lease_book.specs.Links.{answered, plain}
-use Rattle.lease_book.specs.declared.events.Event.{Event as LinkEvent}
-use Rattle.lease_book.specs.declared.events.Event.TheVariants as event
+use Rattle.lease_book.specs.declared.events.BookEvent.{BookEvent}
+use Rattle.lease_book.specs.declared.events.BookEvent.TheVariants as event
 use Rattle.desk_tallies.specs.Passes.{Made, PassOf}
 use Rattle.desk_tallies.specs.Shares.{AtMost, by_class, sum_of}
 use Rattle.pool_desk.specs.Classes.{class_counts}
@@ -291,19 +291,19 @@ counted_return b n key started_at = by_last (b.decisions == last_decision)
 -- ---- the book with its links
 
 module _ {E : Type 0} where
-  counted_event : (b : Book) (e : LinkEvent E) → Counted b (plain e) (answered b e)
+  counted_event : (b : Book) (e : BookEvent E) → Counted b (plain e) (answered b e)
   counted_event b (event.GiveBack l) = counted_return b l.number l.key l.started_at
   counted_event b (event.Plain e) = counted_apply b (event_of e)
 
   -- the counts after an event are those before, and one more
-  counts_are : (b : Book) (e : LinkEvent E) (lists : Book) (old new : Made) → class_counts b.counts ≡ old → lists ≡ (answered b e).book → new ≡ class_counts lists.counts → new ≡ one_more (counted_event b e).kind old
+  counts_are : (b : Book) (e : BookEvent E) (lists : Book) (old new : Made) → class_counts b.counts ≡ old → lists ≡ (answered b e).book → new ≡ class_counts lists.counts → new ≡ one_more (counted_event b e).kind old
   counts_are b e lists old new was is now =
       now ∙ ap (λ (n : Book). class_counts n.counts) is ∙ (counted_event b e).counts ∙ ap (one_more (counted_event b e).kind) was
 
-  pub totals_rise : (b : Book) (e : LinkEvent E) (lists : Book) (old new : Made) → class_counts b.counts ≡ old → lists ≡ (answered b e).book → new ≡ class_counts lists.counts → AtMost old new
+  pub totals_rise : (b : Book) (e : BookEvent E) (lists : Book) (old new : Made) → class_counts b.counts ≡ old → lists ≡ (answered b e).book → new ≡ class_counts lists.counts → AtMost old new
   totals_rise b e lists old new was is now = subst (AtMost old) (sym (counts_are b e lists old new was is now)) (counts_rise (counted_event b e).kind old)
 
-  pub pass_tells : (b : Book) (e : LinkEvent E) (lists : Book) (r : Reply) (old new : Made) (p q : PassOf) → class_counts b.counts ≡ old → lists ≡ (answered b e).book → r ≡ (answered b e).reply → new ≡ class_counts lists.counts
+  pub pass_tells : (b : Book) (e : BookEvent E) (lists : Book) (r : Reply) (old new : Made) (p q : PassOf) → class_counts b.counts ≡ old → lists ≡ (answered b e).book → r ≡ (answered b e).reply → new ≡ class_counts lists.counts
       → sum_of q.made old ≡ sum_of p.made new → q.is_broken ≡ (breaks r || p.is_broken) → Tells (plain e) r p q
   pass_tells b e lists r old new p q was is told now grew broke =
       let k = (counted_event b e).kind in

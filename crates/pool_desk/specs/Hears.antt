@@ -4,8 +4,8 @@ use Rattle.book_model.specs.Outcomes.{Change, Event}
 use Rattle.book_model.specs.Outcomes.Change.{NewLimits, Pause, Resume, Shutdown, Reconnect}
 use Rattle.book_model.specs.Outcomes.Event.{Arrive, Ask, Take, GiveBack, Lost, StartFailed, Leave, Tick, Makes, Cancel, EndLease, HungUp}
 use Rattle.book_model.specs.Outcomes.Event.{Keyed as IsKeyed}
-use Rattle.lease_book.specs.declared.events.Reply.{Reply}
-use Rattle.lease_book.specs.declared.events.Reply.TheVariants as reply
+use Rattle.lease_book.specs.declared.events.BookReply.{BookReply}
+use Rattle.lease_book.specs.declared.events.BookReply.TheVariants as reply
 use Rattle.link_desk.specs.Passes.{at_stage, granted_lease}
 use Rattle.link_desk.specs.declared.answers.Release.TheVariants as release
 use Rattle.link_desk.specs.declared.answers.Target.{Target}
@@ -40,12 +40,12 @@ call_of (HungUp n) = call.HungUp n
 
 module _ {E : Type 0} where
   -- what a cancel is for that is to be sent by a reply
-  abbrev pub target_in : Reply E → Option Target
+  abbrev pub target_in : BookReply E → Option Target
   target_in (reply.Strike n server host port) = Some (record { link = n; server = server })
   target_in _ = None
 
   -- by the call and its reply: each call is the last, but for a client's that waits on
-  abbrev pub heard : Holder → Call → Reply E → Holder
+  abbrev pub heard : Holder → Call → BookReply E → Holder
   heard h (call.Arrive beyond) (reply.Client n) = record h { client = Some n; refused = None; last = Some (call.Arrive beyond) }
   heard h (call.Arrive beyond) (reply.Refuse refusal back) = record h { refused = Some refusal; last = Some (call.Arrive beyond) }
   heard h (call.Ask client) (reply.Refuse refusal back) = record h { refused = Some refusal; last = Some (call.Ask client) }

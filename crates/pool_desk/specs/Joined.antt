@@ -3,8 +3,8 @@ use Rattle.std.specs.Prelude.{◌≡◌, ◌<◌, ℕ, List, [], ◌∷◌, Opti
 use Rattle.link_run.specs.Links.{LinkView}
 use Rattle.book_model.specs.Kept.{Kept}
 use Rattle.lease_book.specs.Links.{BookOf}
-use Rattle.lease_book.specs.declared.events.Event.{Event}
-use Rattle.lease_book.specs.declared.events.Event.TheVariants as event
+use Rattle.lease_book.specs.declared.events.BookEvent.{BookEvent}
+use Rattle.lease_book.specs.declared.events.BookEvent.TheVariants as event
 use Rattle.desk_tallies.specs.Homes.{HomeOf, IsAtHome}
 use Rattle.desk_tallies.specs.Passes.{Made}
 use Rattle.desk_tallies.specs.Shares.{SharesOf, of_each, sum_of}
@@ -32,6 +32,6 @@ pub record IsJoined (home : HomeOf) (book : BookOf) (tallies : Made) (uncut : Sh
 
 module _ {E : Type 0} where
   -- the link that comes with an event
-  abbrev pub brought : Event E → Option LinkView
+  abbrev pub brought : BookEvent E → Option LinkView
   brought (event.GiveBack link) = Some link
   brought (event.Plain e) = None

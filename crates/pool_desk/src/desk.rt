@@ -35,8 +35,8 @@ use desk_tallies::desk::LinkDesk;
 use desk_tallies::ledgers::Ledgers;
 use desk_tallies::passes::{Pass, Totals};
 use desk_tallies::tallies::Blanks;
-use lease_book::events::Event::{GiveBack, Plain};
-use lease_book::events::{Event as BookEvent, Reply};
+use lease_book::events::BookEvent::{GiveBack, Plain};
+use lease_book::events::{BookEvent, BookReply};
 use link_run::links::CleanLink;
 use log_lines::notes::{Client, Note};
 use message_view::KeyView;
@@ -126,7 +126,7 @@ impl<R: Wait + Drop, S: Outside + Drop, K: Ledgers> Desk<R, S, K> {
 impl<R: Wait + Clock, S: Outside, K: Ledgers> Desk<R, S, K> {
     /// A pass that nobody holds; `None` where 4,294,967,295 were cut off.
     pub fn pass(&self) -> Option<Pass<K>>
-        ensures told { IfSome result (λ p. p.told ≡ new_pass) }
+        ensures counted { IfSome result (λ p. p.counted ≡ new_pass) }
         ensures holder { IfSome result (λ p. p.holder ≡ new_holder) }
     {
         self.core.lock(&self.rt).pass()
@@ -184,11 +184,11 @@ impl<R: Wait + Clock, S: Outside, K: Ledgers> Desk<R, S, K> {
 
     /// One event, in one hold of the lock. The end of a link that comes back is minded before the book has it, under the lock: what is heard
     /// of it at once is told to the book behind its return.
-    fn hold(&self, pass: &mut Pass<K>, event: BookEvent<S::End>) -> Reply<S::End>
+    fn hold(&self, pass: &mut Pass<K>, event: BookEvent<S::End>) -> BookReply<S::End>
         requires home { IfSome (brought event) (λ l. IsAtHome S.home l) }
         ensures book { (b : Book) × (Kept b × ((reply_of result ≡ (answered b event).reply) × StrikesInPlace b result)) }
         ensures number { pass.new.number ≡ pass.old.number }
-        ensures told { Tells (plain event) (reply_of result) pass.old.told pass.new.told }
+        ensures counted { Tells (plain event) (reply_of result) pass.old.counted pass.new.counted }
         ensures holder { pass.new.holder ≡ heard pass.old.holder (call_of (plain event)) result }
         ensures home { IfSome (handed result) (λ l. IsAtHome S.home l) }
         ensures back { IfSome (brought event) (λ l. handed result ≡ handed_back l (reply_of result)) }
@@ -222,13 +222,13 @@ impl<R: Wait + Clock, S: Outside, K: Ledgers> Desk<R, S, K> {
 
     /// The clock has reached this second.
     pub fn tick(&self, pass: &mut Pass<K>, now: u64) -> Ticked<S::End>
-        ensures told { AfterTick result pass.old.told pass.new.told }
+        ensures counted { AfterTick result pass.old.counted pass.new.counted }
         ensures holder { pass.new.holder ≡ record pass.old.holder { last = Some (call.Tick now) } }
         ensures home { IsTickAtHome S.home result }
     {
         match self.hold(pass, Plain(Event::Tick { now })) {
-            Reply::Done => Ticked::Done,
-            Reply::Close(link) => Ticked::Close(link),
+            BookReply::Done => Ticked::Done,
+            BookReply::Close(link) => Ticked::Close(link),
             _ => Ticked::Last,
         }
     }
@@ -237,25 +237,25 @@ impl<R: Wait + Clock, S: Outside, K: Ledgers> Desk<R, S, K> {
     /// as it is.
     #[tactic(auto, using(crate::proofs::Answering::is_named))]
     pub fn hung_up(&self, pass: &mut Pass<K>, number: u64) -> HungUp<S::End>
-        ensures told { AfterHangUp result pass.old.told pass.new.told }
+        ensures counted { AfterHangUp result pass.old.counted pass.new.counted }
         ensures holder { pass.new.holder ≡ record pass.old.holder { last = Some (call.HungUp number) } }
         ensures named { IsHangUpOf number result }
         ensures home { IsHangUpAtHome S.home result }
     {
         match self.hold(pass, Plain(Event::HungUp { link: number })) {
-            Reply::Close(link) => HungUp::Close(link),
-            Reply::Nobody => HungUp::NotIdle,
+            BookReply::Close(link) => HungUp::Close(link),
+            BookReply::Nobody => HungUp::NotIdle,
             _ => HungUp::Last,
         }
     }
 }
 
 /// What is answered to a change, by the book's reply.
-fn changed<E: ServerEnd>(reply: Reply<E>) -> Changed
+fn changed<E: ServerEnd>(reply: BookReply<E>) -> Changed
     ensures { result ≡ changed_by (reply_of reply) }
 {
     match reply {
-        Reply::Done => Changed::Done,
+        BookReply::Done => Changed::Done,
         _ => Changed::Last,
     }
 }
@@ -267,14 +267,14 @@ impl<R: Wait + Clock, S: Outside, K: Ledgers> LinkDesk for Desk<R, S, K> {
 
     ghost home = { S.home };
 
-    ghost told = { λ p. p.told };
+    ghost counted = { λ p. p.counted };
 
     ghost holder = { λ p. p.holder };
 
     fn arrive(&self, pass: &mut Pass<K>, beyond: Beyond) -> Arrival {
         match self.hold(pass, Plain(Event::Arrive { beyond })) {
-            Reply::Client(client) => Arrival::Client(client),
-            Reply::Refuse(refusal, _) => Arrival::Refused(refusal),
+            BookReply::Client(client) => Arrival::Client(client),
+            BookReply::Refuse(refusal, _) => Arrival::Refused(refusal),
             _ => unreachable!(),
         }
     }
@@ -285,8 +285,8 @@ impl<R: Wait + Clock, S: Outside, K: Ledgers> LinkDesk for Desk<R, S, K> {
             return Asked::Memory;
         };
         match self.hold(pass, Plain(Event::Ask { client, key })) {
-            Reply::Queued(before) => Asked::Queued(before),
-            Reply::Refuse(refusal, _) => Asked::Refused(refusal),
+            BookReply::Queued(before) => Asked::Queued(before),
+            BookReply::Refuse(refusal, _) => Asked::Refused(refusal),
             _ => Asked::Stranger,
         }
     }
@@ -314,8 +314,8 @@ impl<R: Wait + Clock, S: Outside, K: Ledgers> LinkDesk for Desk<R, S, K> {
             server,
         };
         match self.hold(pass, Plain(event)) {
-            Reply::Done => Keying::Done,
-            Reply::Refuse(..) => Keying::Last,
+            BookReply::Done => Keying::Done,
+            BookReply::Refuse(..) => Keying::Last,
             _ => Keying::Stranger,
         }
     }
@@ -323,9 +323,9 @@ impl<R: Wait + Clock, S: Outside, K: Ledgers> LinkDesk for Desk<R, S, K> {
     fn end_lease(&self, pass: &mut Pass<K>) -> Release {
         let link = pass.lease().number;
         match self.hold(pass, Plain(Event::EndLease { link })) {
-            Reply::Reset => Release::Reset,
-            Reply::Dispose => Release::Dispose,
-            Reply::Refuse(..) => Release::Last,
+            BookReply::Reset => Release::Reset,
+            BookReply::Dispose => Release::Dispose,
+            BookReply::Refuse(..) => Release::Last,
             _ => Release::Stranger,
         }
     }
@@ -333,7 +333,7 @@ impl<R: Wait + Clock, S: Outside, K: Ledgers> LinkDesk for Desk<R, S, K> {
     #[tactic(auto, using(crate::proofs::Answering::is_struck, crate::proofs::Answering::is_nobody, crate::proofs::Answering::is_last))]
     fn cancel(&self, pass: &mut Pass<K>, client: KeyView) -> Cancelled {
         match self.hold(pass, Plain(Event::Cancel { client })) {
-            Reply::Strike {
+            BookReply::Strike {
                 number,
                 server,
                 host,
@@ -344,7 +344,7 @@ impl<R: Wait + Clock, S: Outside, K: Ledgers> LinkDesk for Desk<R, S, K> {
                 host,
                 port,
             }),
-            Reply::Nobody => Cancelled::Nobody,
+            BookReply::Nobody => Cancelled::Nobody,
             _ => Cancelled::Last,
         }
     }
@@ -359,16 +359,16 @@ impl<R: Wait + Clock, S: Outside, K: Ledgers> LinkDesk for Desk<R, S, K> {
             unreachable!()
         };
         match self.hold(pass, GiveBack(clean)) {
-            Reply::Done => Back::Done,
-            Reply::Close(clean) => {
+            BookReply::Done => Back::Done,
+            BookReply::Close(clean) => {
                 *link = Some(clean);
                 Back::Close
             }
-            Reply::Refuse(_, back) => {
+            BookReply::Refuse(_, back) => {
                 *link = back;
                 Back::Last
             }
-            Reply::Stranger(back) => {
+            BookReply::Stranger(back) => {
                 *link = back;
                 Back::Stranger
             }
@@ -379,8 +379,8 @@ impl<R: Wait + Clock, S: Outside, K: Ledgers> LinkDesk for Desk<R, S, K> {
     fn lost(&self, pass: &mut Pass<K>) -> Gone {
         let link = pass.lease().number;
         match self.hold(pass, Plain(Event::Lost { link })) {
-            Reply::Done => Gone::Done,
-            Reply::Refuse(..) => Gone::Last,
+            BookReply::Done => Gone::Done,
+            BookReply::Refuse(..) => Gone::Last,
             _ => Gone::Stranger,
         }
     }
@@ -388,8 +388,8 @@ impl<R: Wait + Clock, S: Outside, K: Ledgers> LinkDesk for Desk<R, S, K> {
     fn start_failed(&self, pass: &mut Pass<K>) -> Gone {
         let link = pass.lease().number;
         match self.hold(pass, Plain(Event::StartFailed { link })) {
-            Reply::Done => Gone::Done,
-            Reply::Refuse(..) => Gone::Last,
+            BookReply::Done => Gone::Done,
+            BookReply::Refuse(..) => Gone::Last,
             _ => Gone::Stranger,
         }
     }
@@ -416,8 +416,8 @@ impl<R: Wait + Clock, S: Outside, K: Ledgers> LinkDesk for Desk<R, S, K> {
     fn leave(&self, pass: &mut Pass<K>) -> Gone {
         let client = pass.client();
         match self.hold(pass, Plain(Event::Leave { client })) {
-            Reply::Done => Gone::Done,
-            Reply::Refuse(..) => Gone::Last,
+            BookReply::Done => Gone::Done,
+            BookReply::Refuse(..) => Gone::Last,
             _ => Gone::Stranger,
         }
     }

@@ -6,10 +6,10 @@ ghost use Rattle.book_model.specs.Events.{change_of, event_of};
 ghost use Rattle.lease_book.specs.Links.{plain};
 ghost use Rattle.pool_desk.specs.Hears.{call_of, call_of_change, heard, target_in};
 
-use book_model::events::{Change, Event as ListsEvent};
+use book_model::events::{Change, Event};
 use desk_tallies::answers::{Release, Target};
 use desk_tallies::calls::{Call, Holder, Lease, Stage};
-use lease_book::events::{Event, Reply};
+use lease_book::events::{BookEvent, BookReply};
 use server_end::ServerEnd;
 
 /// The call that a change is.
@@ -26,19 +26,19 @@ fn call_of_change(change: &Change) -> Call
 }
 
 /// The call that an event is with which no link comes.
-fn plain_call(event: &ListsEvent) -> Call
+fn plain_call(event: &Event) -> Call
     ensures { result ≡ call_of (event_of event.now) }
 {
     match event {
-        ListsEvent::Arrive { beyond } => Call::Arrive(*beyond),
-        ListsEvent::Ask { client, .. } => Call::Ask(*client),
-        ListsEvent::Take { client } => Call::Take(*client),
-        ListsEvent::Lost { link } => Call::Lost(*link),
-        ListsEvent::StartFailed { link } => Call::StartFailed(*link),
-        ListsEvent::Leave { client } => Call::Leave(*client),
-        ListsEvent::Tick { now } => Call::Tick(*now),
-        ListsEvent::Change(change) => call_of_change(change),
-        ListsEvent::Keyed {
+        Event::Arrive { beyond } => Call::Arrive(*beyond),
+        Event::Ask { client, .. } => Call::Ask(*client),
+        Event::Take { client } => Call::Take(*client),
+        Event::Lost { link } => Call::Lost(*link),
+        Event::StartFailed { link } => Call::StartFailed(*link),
+        Event::Leave { client } => Call::Leave(*client),
+        Event::Tick { now } => Call::Tick(*now),
+        Event::Change(change) => call_of_change(change),
+        Event::Keyed {
             link,
             client,
             server,
@@ -47,19 +47,19 @@ fn plain_call(event: &ListsEvent) -> Call
             client: *client,
             server: *server,
         },
-        ListsEvent::Cancel { client } => Call::Cancel(*client),
-        ListsEvent::EndLease { link } => Call::EndLease(*link),
-        ListsEvent::HungUp { link } => Call::HungUp(*link),
+        Event::Cancel { client } => Call::Cancel(*client),
+        Event::EndLease { link } => Call::EndLease(*link),
+        Event::HungUp { link } => Call::HungUp(*link),
     }
 }
 
 /// The call that an event is.
-pub(crate) fn call_of<E: ServerEnd>(event: &Event<E>) -> Call
+pub(crate) fn call_of<E: ServerEnd>(event: &BookEvent<E>) -> Call
     ensures { result ≡ call_of (plain event.now) }
 {
     match event {
-        Event::GiveBack(link) => Call::GiveBack(link.number()),
-        Event::Plain(event) => plain_call(event),
+        BookEvent::GiveBack(link) => Call::GiveBack(link.number()),
+        BookEvent::Plain(event) => plain_call(event),
     }
 }
 
@@ -101,11 +101,11 @@ fn released(holder: Holder, release: Release) -> Holder
 }
 
 /// What the cancel is for that is to be sent by this reply.
-fn target_in<E: ServerEnd>(reply: &Reply<E>) -> Option<Target>
+fn target_in<E: ServerEnd>(reply: &BookReply<E>) -> Option<Target>
     ensures { result ≡ target_in reply.now }
 {
     match reply {
-        Reply::Strike { number, server, .. } => Some(Target {
+        BookReply::Strike { number, server, .. } => Some(Target {
             link: *number,
             server: *server,
         }),
@@ -114,7 +114,7 @@ fn target_in<E: ServerEnd>(reply: &Reply<E>) -> Option<Target>
 }
 
 /// Who holds a pass after this call, by its reply: each call is the last, but for a client's that waits on.
-pub(crate) fn heard<E: ServerEnd>(holder: Holder, call: Call, reply: &Reply<E>) -> Holder
+pub(crate) fn heard<E: ServerEnd>(holder: Holder, call: Call, reply: &BookReply<E>) -> Holder
     ensures { result ≡ heard holder call reply.now }
 {
     let held = Holder {
@@ -122,30 +122,30 @@ pub(crate) fn heard<E: ServerEnd>(holder: Holder, call: Call, reply: &Reply<E>) 
         ..holder
     };
     match (call, reply) {
-        (Call::Arrive(_), Reply::Client(client)) => Holder {
+        (Call::Arrive(_), BookReply::Client(client)) => Holder {
             client: Some(*client),
             refused: None,
             ..held
         },
-        (Call::Arrive(_) | Call::Ask(_) | Call::Take(_), Reply::Refuse(refusal, _)) => Holder {
+        (Call::Arrive(_) | Call::Ask(_) | Call::Take(_), BookReply::Refuse(refusal, _)) => Holder {
             refused: Some(*refusal),
             ..held
         },
-        (Call::Take(_), Reply::Queued(_)) => holder,
-        (Call::Take(_), Reply::Lend(link)) => with_lease(held, link.number(), link.started_at()),
+        (Call::Take(_), BookReply::Queued(_)) => holder,
+        (Call::Take(_), BookReply::Lend(link)) => with_lease(held, link.number(), link.started_at()),
         (
             Call::Take(_),
-            Reply::Start {
+            BookReply::Start {
                 number,
                 started_at,
                 ..
             },
         ) => with_lease(held, *number, *started_at),
-        (Call::Keyed { .. }, Reply::Done) => at_stage(held, Stage::Keyed),
-        (Call::EndLease(_), Reply::Reset) => at_stage(released(held, Release::Reset), Stage::Ended),
-        (Call::EndLease(_), Reply::Dispose) => released(held, Release::Dispose),
-        (Call::EndLease(_), Reply::Refuse(..)) => released(held, Release::Last),
-        (Call::EndLease(_), Reply::Stranger(_)) => released(held, Release::Stranger),
+        (Call::Keyed { .. }, BookReply::Done) => at_stage(held, Stage::Keyed),
+        (Call::EndLease(_), BookReply::Reset) => at_stage(released(held, Release::Reset), Stage::Ended),
+        (Call::EndLease(_), BookReply::Dispose) => released(held, Release::Dispose),
+        (Call::EndLease(_), BookReply::Refuse(..)) => released(held, Release::Last),
+        (Call::EndLease(_), BookReply::Stranger(_)) => released(held, Release::Stranger),
         (Call::GiveBack(_) | Call::Lost(_) | Call::StartFailed(_), _) => Holder {
             lease: None,
             ..held

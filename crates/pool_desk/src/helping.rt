@@ -10,10 +10,10 @@ ghost use Rattle.lease_book.specs.Links.{plain};
 use crate::bells::{BELLS, Chosen, choose};
 use crate::inner::Core;
 use crate::outside::Outside;
-use book_model::events::{Change, Event as ListsEvent};
+use book_model::events::{Change, Event};
 use book_rows::firsts::Firsts;
 use desk_tallies::ledgers::Ledgers;
-use lease_book::events::Event;
+use lease_book::events::BookEvent;
 
 /// Which of the clients that wait a decision may help.
 #[derive(Clone, Copy, Drop)]
@@ -28,35 +28,35 @@ pub enum Helps {
 
 impl<S: Outside, K: Ledgers> Core<S, K> {
     /// Whom this event helps, once it is decided.
-    pub fn helped_by(&self, event: &Event<S::End>) -> Helps
+    pub fn helped_by(&self, event: &BookEvent<S::End>) -> Helps
         ensures { result ≡ helped_by self.now.book.lists (plain event.now) }
     {
         match event {
-            Event::GiveBack(link) => self.helped_by_link(link.number()),
-            Event::Plain(event) => self.helped_plainly(event),
+            BookEvent::GiveBack(link) => self.helped_by_link(link.number()),
+            BookEvent::Plain(event) => self.helped_plainly(event),
         }
     }
 
     /// The same, where no link comes with it.
-    fn helped_plainly(&self, event: &ListsEvent) -> Helps
+    fn helped_plainly(&self, event: &Event) -> Helps
         ensures { result ≡ helped_by self.now.book.lists (event_of event.now) }
     {
         match event {
-            ListsEvent::Arrive { .. }
-            | ListsEvent::Ask { .. }
-            | ListsEvent::Keyed { .. }
-            | ListsEvent::Cancel { .. }
-            | ListsEvent::EndLease { .. }
-            | ListsEvent::HungUp { .. }
-            | ListsEvent::Change(Change::Reconnect) => Helps::Nobody,
-            ListsEvent::Take { client } | ListsEvent::Leave { client } => {
+            Event::Arrive { .. }
+            | Event::Ask { .. }
+            | Event::Keyed { .. }
+            | Event::Cancel { .. }
+            | Event::EndLease { .. }
+            | Event::HungUp { .. }
+            | Event::Change(Change::Reconnect) => Helps::Nobody,
+            Event::Take { client } | Event::Leave { client } => {
                 self.helped_behind(*client)
             }
-            ListsEvent::Lost { link } | ListsEvent::StartFailed { link } => {
+            Event::Lost { link } | Event::StartFailed { link } => {
                 self.helped_by_link(*link)
             }
-            ListsEvent::Change(Change::Shutdown) => Helps::All,
-            ListsEvent::Tick { .. } | ListsEvent::Change(_) => Helps::FirstOfEach,
+            Event::Change(Change::Shutdown) => Helps::All,
+            Event::Tick { .. } | Event::Change(_) => Helps::FirstOfEach,
         }
     }
 

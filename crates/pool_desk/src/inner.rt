@@ -26,7 +26,7 @@ use crate::hearing::{call_of, heard};
 use crate::outside::Outside;
 use crate::wants::Wants;
 use book_model::counts::Counts;
-use book_model::events::Event as ListsEvent;
+use book_model::events::Event;
 use book_model::limits::Limits;
 use book_register::view::BookView;
 use book_rows::pools::PoolKey;
@@ -35,7 +35,7 @@ use desk_tallies::ledgers::Ledgers;
 use desk_tallies::passes::{ALL_PARTS, Pass, Shares, Totals};
 use desk_tallies::tallies::{Blanks, Tallies};
 use lease_book::book::Book;
-use lease_book::events::{Event, Reply};
+use lease_book::events::{BookEvent, BookReply};
 use message_view::Refusal;
 use pool_figures::decisions::DecisionSeen;
 use server_end::ServerEnd;
@@ -62,12 +62,12 @@ fn totals_of(decisions: u64, counts: Counts) -> Totals
 }
 
 /// Whether nothing more is promised of a pass after this reply.
-fn breaks<E: ServerEnd>(reply: &Reply<E>) -> bool
+fn breaks<E: ServerEnd>(reply: &BookReply<E>) -> bool
     ensures { result ≡ breaks (reply_of reply.now) }
 {
     match reply {
-        Reply::Refuse(Refusal::LastDecision, _) => true,
-        Reply::Stranger(_) => true,
+        BookReply::Refuse(Refusal::LastDecision, _) => true,
+        BookReply::Stranger(_) => true,
         _ => false,
     }
 }
@@ -119,7 +119,7 @@ impl<S: Outside, K: Ledgers> Core<S, K> {
 
     /// Cuts a pass off; `None` where one part of each ledger is left.
     pub fn pass(&mut self) -> Option<Pass<K>>
-        ensures pass { IfSome result (λ p. p ≡ record { number = self.old.given; told = new_pass; holder = new_holder }) }
+        ensures pass { IfSome result (λ p. p ≡ record { number = self.old.given; counted = new_pass; holder = new_holder }) }
         ensures given { IfSome result (λ p. self.new.given ≡ suc self.old.given) }
         ensures none { IfNone result (suc self.old.given ≡ ALL_PARTS) }
         ensures book { self.new.book ≡ self.old.book }
@@ -133,7 +133,7 @@ impl<S: Outside, K: Ledgers> Core<S, K> {
     }
 
     /// One event, made through this pass, which hears the reply.
-    pub fn apply(&mut self, pass: &mut Pass<K>, event: Event<S::End>) -> Reply<S::End>
+    pub fn apply(&mut self, pass: &mut Pass<K>, event: BookEvent<S::End>) -> BookReply<S::End>
         requires home { IfSome (brought event) (λ l. IsAtHome S.home l) }
         ensures kept { Kept self.old.book.lists }
         ensures lists { self.new.book.lists ≡ (answered self.old.book.lists event).book }
@@ -144,7 +144,7 @@ impl<S: Outside, K: Ledgers> Core<S, K> {
         ensures handed { handed result ≡ handed_after event (answered self.old.book.lists event).reply self.old.book.idle }
         ensures home { IfSome (handed result) (λ l. IsAtHome S.home l) }
         ensures number { pass.new.number ≡ pass.old.number }
-        ensures told { Tells (plain event) (reply_of result) pass.old.told pass.new.told }
+        ensures counted { Tells (plain event) (reply_of result) pass.old.counted pass.new.counted }
         ensures holder { pass.new.holder ≡ heard pass.old.holder (call_of (plain event)) result }
         ensures given { self.new.given ≡ self.old.given }
     {
@@ -158,18 +158,18 @@ impl<S: Outside, K: Ledgers> Core<S, K> {
     }
 
     /// Whom this event calls to ask again, once it is decided: a link comes back or goes, or whoever was called leaves.
-    pub fn calls(&mut self, event: &Event<S::End>) -> Option<u64> {
+    pub fn calls(&mut self, event: &BookEvent<S::End>) -> Option<u64> {
         if self.wants.is_empty() {
             return None;
         }
         match event {
-            Event::GiveBack(link) => self.wants.call(link.key()),
-            Event::Plain(ListsEvent::Lost { link }) => {
+            BookEvent::GiveBack(link) => self.wants.call(link.key()),
+            BookEvent::Plain(Event::Lost { link }) => {
                 let key = self.book.lists().lent_key(*link)?;
                 self.wants.call(key)
             }
-            Event::Plain(ListsEvent::Leave { client }) => self.wants.remove(*client),
-            Event::Plain(_) => None,
+            BookEvent::Plain(Event::Leave { client }) => self.wants.remove(*client),
+            BookEvent::Plain(_) => None,
         }
     }
 
@@ -204,15 +204,15 @@ impl<S: Outside, K: Ledgers> Core<S, K> {
         ensures link { link_in result ≡ found (goes_out (apply self.old.book.lists (Take client)).reply) self.old.book.idle }
         ensures given { self.new.given ≡ self.old.given }
         ensures number { pass.new.number ≡ pass.old.number }
-        ensures told { pass.new.told ≡ after_grant pass.old.told result }
+        ensures counted { pass.new.counted ≡ after_grant pass.old.counted result }
         ensures holder { pass.new.holder ≡ taken pass.old.holder result }
         ensures refused { MayTake result }
         ensures home { IsGrantAtHome S.home result }
     {
-        match self.apply(pass, Event::Plain(ListsEvent::Take { client })) {
-            Reply::Queued(_before) => Grant::Queued,
-            Reply::Lend(link) => Grant::Lend(link),
-            Reply::Start {
+        match self.apply(pass, BookEvent::Plain(Event::Take { client })) {
+            BookReply::Queued(_before) => Grant::Queued,
+            BookReply::Lend(link) => Grant::Lend(link),
+            BookReply::Start {
                 number,
                 started_at,
                 evicted,
@@ -221,7 +221,7 @@ impl<S: Outside, K: Ledgers> Core<S, K> {
                 started_at,
                 evicted,
             },
-            Reply::Refuse(refusal, _back) => Grant::Refused(refusal),
+            BookReply::Refuse(refusal, _back) => Grant::Refused(refusal),
             _ => Grant::Stranger,
         }
     }
@@ -232,7 +232,7 @@ impl<S: Outside, K: Ledgers> Core<S, K> {
     pub fn view(&mut self, alloc: Global, pass: &mut Pass<K>) -> Result<BookView, AllocError>
         ensures view { IfOk result (λ v. v ≡ view_of self.old.book.lists) }
         ensures kept { Kept self.old.book.lists }
-        ensures at_least { IfOk result (λ v. AtMost pass.old.told.made (class_counts v.counts)) }
+        ensures at_least { IfOk result (λ v. AtMost pass.old.counted.made (class_counts v.counts)) }
         ensures pass { pass.new ≡ pass.old }
         ensures same { self.new ≡ self.old }
     {

@@ -3,7 +3,7 @@ ghost use Rattle.std.specs.Prelude.{◌≡◌};
 
 use crate::outside::Outside;
 use desk_tallies::answers::Grant;
-use lease_book::events::Event;
+use lease_book::events::BookEvent;
 use link_run::links::CleanLink;
 
 /// The same link, whose end is minded from now on.
@@ -16,11 +16,11 @@ fn minded<S: Outside>(outside: &S, link: CleanLink<S::End>) -> CleanLink<S::End>
 }
 
 /// The same event; the end of a link that comes back is minded from now on.
-pub(crate) fn heeded<S: Outside>(outside: &S, event: Event<S::End>) -> Event<S::End>
+pub(crate) fn heeded<S: Outside>(outside: &S, event: BookEvent<S::End>) -> BookEvent<S::End>
     ensures { result ≡ event }
 {
     match event {
-        Event::GiveBack(link) => Event::GiveBack(minded(outside, link)),
+        BookEvent::GiveBack(link) => BookEvent::GiveBack(minded(outside, link)),
         event => event,
     }
 }

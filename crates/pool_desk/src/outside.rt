@@ -59,11 +59,11 @@ pub trait Outside {
     }
 
     /// The limits that were read were answered so. Where the book keeps them, all that was read holds for later clients from now on, and the
-    /// log is told so; else it is forgotten.
+    /// log says so; else it is forgotten.
     fn settle(&self, changed: Changed) {
         let _ = changed;
     }
 
-    /// Tells the log, if there is one. It waits for no reader of it.
+    /// Logs a note, if there is a log. It waits for no reader of it.
     fn note(&self, _client: &Client<'_>, _note: &Note<'_>) {}
 }

@@ -1,4 +1,4 @@
--- What of a pool's notes its log is told, which settings it has from its start on, and how its connections are kept alive.
+-- Which of a pool's notes are logged, which settings it has from its start on, and how its connections are kept alive.
 use Rattle.std.specs.Prelude.{ℕ, List, [], ◌∷◌, Bool, true, not, ◌==◌, ◌||◌, Option, Some, None, if◌then◌else◌, bytes_eq, codes}
 use Rattle.std.specs.List.{list_all, list_any}
 use Rattle.std.specs.Borrow.{Bor}
@@ -8,11 +8,11 @@ use Rattle.log_lines.specs.declared.notes.Note.{Note}
 use Rattle.log_lines.specs.declared.notes.Note.TheVariants as note
 
 -- that a client came, was lent a link or went, where the settings say so; and all else
-abbrev pub is_told : Settings → Note → Bool
-is_told settings note.LoggedIn = settings.log_connections
-is_told settings (note.Lent number server process) = settings.log_connections
-is_told settings note.Closed = settings.log_disconnections
-is_told settings other = true
+abbrev pub is_logged : Settings → Note → Bool
+is_logged settings note.LoggedIn = settings.log_connections
+is_logged settings (note.Lent number server process) = settings.log_connections
+is_logged settings note.Closed = settings.log_disconnections
+is_logged settings other = true
 
 -- ---- which settings it has from its start on, though the files may say others at a RELOAD
 

@@ -25,7 +25,7 @@ use user_file::{UserTable, Users};
 /// Why files aren't read again.
 #[derive(Drop)]
 pub enum ReloadError {
-    /// A file's fault, as the log tells it.
+    /// A file's fault, as it is logged.
     Fault(String),
     /// No memory was left.
     Memory,
@@ -96,9 +96,9 @@ impl Bounded {
         Arc::try_clone(&self.settings)
     }
 
-    /// Whether the log is told such a note.
+    /// Whether such a note is logged.
     fn tells(&self, note: &Note<'_>) -> bool
-        ensures { result ≡ spec.is_told self.now note.now }
+        ensures { result ≡ spec.is_logged self.now note.now }
     {
         match note {
             Note::LoggedIn | Note::Lent(..) => self.settings.log_connections(),
@@ -270,7 +270,7 @@ impl<R: Wait, F: Source> Keeper<R, F> {
         (settings.stats_period(), settings.log_stats())
     }
 
-    /// Whether the log is told such a note, by the settings of later clients.
+    /// Whether such a note is logged, by the settings of later clients.
     pub(crate) fn tells(&self, note: &Note<'_>) -> bool {
         self.kept.lock(&self.rt).settings.tells(note)
     }
@@ -395,7 +395,7 @@ impl<R: Wait, F: Source> Keeper<R, F> {
 
 impl<R: Wait + Clock, F: Source> Keeper<R, F> {
     /// Reads the files again, once what was read before is settled; the limits of the settings. Nothing of what was read holds before it is
-    /// settled. `None` where a file has a fault or an allocation fails, which the log is told; nothing is to be settled then.
+    /// settled. `None` where a file has a fault or an allocation fails, which is logged; nothing is to be settled then.
     pub fn reload(&self, log: &PoolLog<R>) -> Option<Arc<Limits>> {
         match self.read_in_turn() {
             Ok(limits) => Some(limits),
@@ -411,7 +411,7 @@ impl<R: Wait + Clock, F: Source> Keeper<R, F> {
     }
 
     /// So the book answered to the limits that were read. Where it keeps them, all that was read holds for later clients from now on, and
-    /// the log is told so; else it is forgotten.
+    /// the log says so; else it is forgotten.
     pub fn settle(&self, log: &PoolLog<R>, changed: Changed) {
         let mut unsettled = self.unsettled.lock(&self.rt);
         match (unsettled.take(), changed) {
@@ -426,21 +426,21 @@ impl<R: Wait + Clock, F: Source> Keeper<R, F> {
         self.settled.notify_all();
     }
 
-    /// Tells the log that the files were read again, and what of them isn't as they say.
+    /// Logs that the files were read again, and what of them isn't as they say.
     fn tell_reloaded(&self, log: &PoolLog<R>) {
         log.reloaded();
         self.tell_users(log);
         self.tell_staying(log);
     }
 
-    /// Tells the log of secrets by which no later client can log in.
+    /// Logs secrets by which no later client can log in.
     pub(crate) fn tell_users(&self, log: &PoolLog<R>) {
         if let Ok((settings, users)) = self.share() {
             log.users(settings.auth_type(), &users);
         }
     }
 
-    /// Tells the log of settings that the files say anew, and that are as they were at the start.
+    /// Logs settings that the files say anew, and that are as they were at the start.
     fn tell_staying(&self, log: &PoolLog<R>) {
         let Ok((settings, _)) = self.share() else {
             return;

@@ -144,7 +144,7 @@ impl Listening {
         Ok(())
     }
 
-    /// Tells the log of all, and waits at the listeners.
+    /// Logs all of them, and waits at the listeners.
     pub(crate) fn begin<R: Net + Wait + Clock>(
         self,
         rt: &R,

@@ -1,4 +1,4 @@
-//! The pool's log, as its threads tell it. No contract says what a log is told; tests/program/console.py shows it.
+//! The pool's log, as its threads write to it. No contract says what is logged; tests/program/console.py shows it.
 
 use crate::surroundings::is_short_of_files;
 use ini_config::AuthType;

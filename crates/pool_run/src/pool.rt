@@ -270,11 +270,11 @@ impl<R: PoolRuntime, F: Source, K: Ledgers> Pool<R, F, K> {
         }
     }
 
-    /// The clock has reached this second: tells the log what went through the pool in a period that is over, where it is to be told.
+    /// The clock has reached this second: logs what went through the pool in a period that is over, where it is to be logged.
     fn tell_figures(&self, now: u64) {
-        let (period, is_told) = self.keeper.stats();
+        let (period, is_logged) = self.keeper.stats();
         if let Some(figures) = self.watch.tick(now, period) {
-            if is_told {
+            if is_logged {
                 self.log.figures(figures, period);
             }
         }
@@ -309,7 +309,7 @@ impl<R: PoolRuntime, F: Source, K: Ledgers> Pool<R, F, K> {
         }
     }
 
-    /// Closes an idle link to which something came, and tells the log what.
+    /// Closes an idle link to which something came, and logs what.
     fn close_idle(&self, link: CleanLink<TcpEnd>) {
         let number = link.number();
         let mut parts = link.lend();

@@ -58,7 +58,7 @@ linked_evens p q r is x =
 
 pub one_more : {home : HomeOf} {g : LoggedIn} {p : PassOf} (m q : PassOf) (e : Ending) → HasAskedAgain home g p m → lacks_place e ≡ true → IsNotStarted home g AtAsking m q e → HasAskedAgain home g p q
 one_more {home} {g} {p} m q e h lacks x =
-    subst (HasAskedAgain home g p) (sym x.told) (once_more m x.cause x.gone h x.unstarted (ap lacks_place (sym x.is_ending) ∙ lacks))
+    subst (HasAskedAgain home g p) (sym x.counted) (once_more m x.cause x.gone h x.unstarted (ap lacks_place (sym x.is_ending) ∙ lacks))
 
 -- ---- at last
 

@@ -24,7 +24,7 @@ use Rattle.pool_serve.proofs.Logging.{same_rows}
 
 passed_on : CancellingRunsHaveAsked → (v : LoginView) (first run : RunView) (key : KeyView) (after : ClientFacts) (p q : PassOf) (h k : Holder) (answer : Cancelled) → first.login ≡ v → IsSameLogin first run → IsRun run → run.phase ≡ runs.Cancelling key → after ≡ run.client → q ≡ after_cancel p answer → k ≡ cancelled_by key h answer
     → IsPassedOn v p q h k after
-passed_on law v first run key after p q h k answer is same i phase e told holder =
+passed_on law v first run key after p q h k answer is same i phase e counted holder =
     let x = law run key i phase in
     let said : Dialogue = record { pieces = x.pieces; ended = Stopped (Cancelling key) } in
     let heard : login_among (rows_of run.login) run.login.word x.heard ≡ said = subst (λ (bytes : List ℕ). login_among (rows_of run.login) run.login.word bytes ≡ said) (append-nil x.heard) (x.asked []) in
@@ -38,7 +38,7 @@ passed_on law v first run key after p q h k answer is same i phase e told holder
       taken = λ t. ap (λ (c : ClientFacts). c.taken) e ∙ x.taken (sym (ap (λ (c : ClientFacts). c.tells) e) ∙ t);
       given = λ t. ap (λ (c : ClientFacts). c.given) e ∙ x.given (sym (ap (λ (c : ClientFacts). c.tells) e) ∙ t);
       answer = answer;
-      told = told;
+      counted = counted;
       holder = holder;
     }
 
@@ -51,12 +51,12 @@ cancelled_settles p q answer e = subst (Settles p) (sym e) (by answer)
     by cancelled.Last = λ x. absurd (true≢false x)
 
 untouched_settles : (p q : PassOf) (h k : Holder) → IsUntouched p q h k → Settles p q
-untouched_settles p q h k u = subst (Settles p) (sym u.told) (λ x. record { leases = refl; clients = refl })
+untouched_settles p q h k u = subst (Settles p) (sym u.counted) (λ x. record { leases = refl; clients = refl })
 
 -- ---- a login that comes to no arrival
 
 pub dismissed_settles : (t : LoginTurn) (p q : PassOf) (h k : Holder) → IsDismissed t p q h k → Settles p q
-dismissed_settles (turn.Cancel key) p q h k (answer, (told, holder)) = cancelled_settles p q answer told
+dismissed_settles (turn.Cancel key) p q h k (answer, (counted, holder)) = cancelled_settles p q answer counted
 dismissed_settles turn.Again p q h k u = untouched_settles p q h k u
 dismissed_settles turn.Wait p q h k u = untouched_settles p q h k u
 dismissed_settles turn.Arrived p q h k u = untouched_settles p q h k u
@@ -73,7 +73,7 @@ untouched_keeps : (p q : PassOf) (h k : Holder) → IsUntouched p q h k → Keep
 untouched_keeps p q h k u = record { client = ap (λ (x : Holder). x.client) u.holder; lease = ap (λ (x : Holder). x.lease) u.holder }
 
 pub dismissed_keeps : (t : LoginTurn) (p q : PassOf) (h k : Holder) → IsDismissed t p q h k → KeepsFree h k
-dismissed_keeps (turn.Cancel key) p q h k (answer, (told, holder)) = record { client = ap (λ (x : Holder). x.client) holder; lease = ap (λ (x : Holder). x.lease) holder }
+dismissed_keeps (turn.Cancel key) p q h k (answer, (counted, holder)) = record { client = ap (λ (x : Holder). x.client) holder; lease = ap (λ (x : Holder). x.lease) holder }
 dismissed_keeps turn.Again p q h k u = untouched_keeps p q h k u
 dismissed_keeps turn.Wait p q h k u = untouched_keeps p q h k u
 dismissed_keeps turn.Arrived p q h k u = untouched_keeps p q h k u
@@ -83,7 +83,7 @@ dismissed_keeps turn.Over p q h k u = untouched_keeps p q h k u
 
 pub dismissed_is_over : {O : Type 0} → CancellingRunsHaveAsked → (v : LoginView) (first run : RunView) (t : LoginTurn) (after : ClientFacts) (p q : PassOf) (h k : Holder) → first.login ≡ v → IsSameLogin first run → IsRun run → HasStopped run t → after ≡ run.client → IsDismissed t p q h k
     → IsUntouched p q h k ⊎ IsPassedOn v p q h k after ⊎ O
-dismissed_is_over law v first run (turn.Cancel key) after p q h k is same i stopped e (answer, (told, holder)) = inr (inl (passed_on law v first run key after p q h k answer is same i stopped.0 e told holder))
+dismissed_is_over law v first run (turn.Cancel key) after p q h k is same i stopped e (answer, (counted, holder)) = inr (inl (passed_on law v first run key after p q h k answer is same i stopped.0 e counted holder))
 dismissed_is_over law v first run turn.Again after p q h k is same i stopped e u = inl u
 dismissed_is_over law v first run turn.Wait after p q h k is same i stopped e u = inl u
 dismissed_is_over law v first run turn.Arrived after p q h k is same i stopped e u = inl u

@@ -78,7 +78,7 @@ module _ (home : HomeOf) (g : LoggedIn) (p mid q : PassOf) (h m k : Holder) (gra
   })
 
   not_started : (e : Ending) (x : Gone) → IsUnopened home g e → q ≡ after_loss mid x → lacks_place e ≡ true → IsNotStarted home g AtWait p q e
-  not_started (ending.Unstarted cause) x why lost lacks = record { cause = cause; gone = x; is_ending = refl; unstarted = why; told = lost ∙ ap (λ (m : PassOf). after_loss m x) granted }
+  not_started (ending.Unstarted cause) x why lost lacks = record { cause = cause; gone = x; is_ending = refl; unstarted = why; counted = lost ∙ ap (λ (m : PassOf). after_loss m x) granted }
   not_started ending.Unreached x why lost lacks = absurd (true≢false (sym lacks))
   not_started ending.Memory x why lost lacks = absurd (true≢false (sym lacks))
   not_started ending.Left x why lost lacks = absurd why
@@ -129,7 +129,7 @@ module _ (home : HomeOf) (g : LoggedIn) (p mid q : PassOf) (h m k : Holder) (que
   queued_failed (Ok l) x = tt
   queued_failed (Err e) x = λ lacks.
       let y = x lacks in
-      record { cause = y.cause; gone = y.gone; is_ending = y.is_ending; unstarted = y.unstarted; told = y.told ∙ ap (λ (m : PassOf). after_loss (one_granted m) y.gone) queued }
+      record { cause = y.cause; gone = y.gone; is_ending = y.is_ending; unstarted = y.unstarted; counted = y.counted ∙ ap (λ (m : PassOf). after_loss (one_granted m) y.gone) queued }
 
   pub queued_told : {A : Type 0} (r : Result A Ending) → IfOk r (λ l. q ≡ one_granted mid) → IfOk r (λ l. q ≡ one_granted (one_other p))
   queued_told (Ok l) x = x ∙ ap one_granted queued

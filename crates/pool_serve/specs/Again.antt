@@ -48,7 +48,7 @@ pub record IsNotStarted (home : HomeOf) (g : LoggedIn) (since : Since) (p q : Pa
   pub gone : Gone
   pub is_ending : e ≡ ending.Unstarted cause
   pub unstarted : IsUnstarted home g cause
-  pub told : q ≡ after_failure since p gone
+  pub counted : q ≡ after_failure since p gone
 
 -- so it ended for a client to or from which nothing moved
 abbrev pub IsEndedFor : HomeOf → LoggedIn → Since → PassOf → PassOf → Ending → Type 0
@@ -56,7 +56,7 @@ IsEndedFor home g since p q e = (c : ClientFacts) → HasEnded home g since p q 
 
 -- ---- of all
 
--- It asked again, each time after its server had no place for its link: what the pass told at first, and when it asked last.
+-- It asked again, each time after its server had no place for its link: what its pass had counted at first, and when it asked last.
 pub data HasAskedAgain (home : HomeOf) (g : LoggedIn) (p : PassOf) : PassOf → Type 0 where
   never : HasAskedAgain home g p p
   once_more : (m : PassOf) (cause : StartCause) (gone : Gone) → HasAskedAgain home g p m → IsUnstarted home g cause → lacks_place (ending.Unstarted cause) ≡ true →

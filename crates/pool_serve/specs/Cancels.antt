@@ -38,5 +38,5 @@ pub record IsPassedOn (v : LoginView) (p q : PassOf) (h k : Holder) (after : Cli
   pub taken : after.tells ≡ true → after.taken ≡ heard
   pub given : after.tells ≡ true → after.given ≡ joined_pieces pieces
   pub answer : Cancelled
-  pub told : q ≡ after_cancel p answer
+  pub counted : q ≡ after_cancel p answer
   pub holder : k ≡ cancelled_by key h answer

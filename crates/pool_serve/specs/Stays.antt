@@ -62,10 +62,10 @@ IfManaged other holds = Unit {0}
 pub record IsStay (p q m n : Pass) : Type 0 where
   pub beyond : Beyond
   pub number : ℕ
-  pub let_in : m.told ≡ one_arrived p.told
+  pub let_in : m.counted ≡ one_arrived p.counted
   pub arrived_as : m.holder ≡ arrived beyond p.holder (arrival.Client number)
   pub gone : Gone
-  pub told : q.told ≡ after_leaving n.told gone
+  pub counted : q.counted ≡ after_leaving n.counted gone
   pub has_left : q.holder ≡ left n.holder
 
 -- a client of the console was served so between its arrival and its leaving
@@ -75,7 +75,7 @@ pub record StayedAtConsole (v : LoginView) (p q : Pass) (after : ClientFacts) (l
   pub stay : IsStay p q here leaves
   pub managed : IsManaged v here leaves after last
 
--- a client of this login may have asked again for its link: what the pass told at first, and when it asked last
+-- a client of this login may have asked again for its link: what its pass had counted at first, and when it asked last
 abbrev pub MayHaveAskedAgain : HomeOf → LoginView → PassOf → PassOf → Type 0
 MayHaveAskedAgain home v p last = (last ≡ p) ⊎ ((g : LoggedIn) × (IsGuestOf v g × HasAskedAgain home g p last))
 
@@ -109,7 +109,7 @@ ServesAs home v c e = IsServed home v c (final_message_of e)
 
 -- the client never arrived at the desk
 pub record IsUntouched (p q : PassOf) (h k : Holder) : Type 0 where
-  pub told : q ≡ p
+  pub counted : q ≡ p
   pub holder : k ≡ h
 
 -- by how its login stopped short of an arrival: what it asked to be cancelled was passed on, or the pass is as it was

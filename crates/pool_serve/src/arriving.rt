@@ -43,7 +43,7 @@ impl<'a, D: LinkDesk, G: Gate<D::End>> Worker<'a, D, G> {
     /// The client of this login arrives, and may use the places beyond the limit that are its own.
     pub(crate) fn arrive<C: ClientEnd>(&mut self, run: &LoginRun<C>) -> Arrival
         requires free { (D.holder self.old.pass).client ≡ None }
-        ensures told { D.told self.new.pass ≡ after_arrival (D.told self.old.pass) result }
+        ensures counted { D.counted self.new.pass ≡ after_arrival (D.counted self.old.pass) result }
         ensures holder { D.holder self.new.pass ≡ arrived (spec.beyond_for run.now.login self.old.visit) (D.holder self.old.pass) result }
         ensures refused { MayArrive result }
     {

@@ -67,8 +67,8 @@ impl<'a, D: LinkDesk, G: Gate<D::End>> Worker<'a, D, G> {
     /// Closes the client's link, over which nothing went, and reports it lost.
     fn drop_link(&mut self, link: CleanLink<D::End>)
         requires here { IsSome (D.holder self.old.pass).lease }
-        ensures lost { HadLink AtLease (D.told self.old.pass) (D.told self.new.pass) × HasLost (D.told self.old.pass) (D.told self.new.pass) }
-        ensures share { Ends (D.told self.old.pass) (D.told self.new.pass) }
+        ensures lost { HadLink AtLease (D.counted self.old.pass) (D.counted self.new.pass) × HasLost (D.counted self.old.pass) (D.counted self.new.pass) }
+        ensures share { Ends (D.counted self.old.pass) (D.counted self.new.pass) }
         ensures holder { D.holder self.new.pass ≡ without_lease Lost (D.holder self.old.pass) }
     {
         close_link(link);
@@ -87,9 +87,9 @@ impl<'a, D: LinkDesk, G: Gate<D::End>> Worker<'a, D, G> {
         requires key { link.key ≡ arc_value logged_in.now.key }
         requires own { (D.holder self.old.pass).lease ≡ Some (granted_lease link) }
         requires logged_in { IsLoggedIn logged_in.now }
-        ensures share { Ends (D.told self.old.pass) (D.told self.new.pass) }
+        ensures share { Ends (D.counted self.old.pass) (D.counted self.new.pass) }
         ensures frees { Frees (D.holder self.old.pass) (D.holder self.new.pass) result.1 }
-        ensures ended { HasEnded D.home logged_in.now AtLease (D.told self.old.pass) (D.told self.new.pass) (C.facts client) (C.facts result.0) result.1 }
+        ensures ended { HasEnded D.home logged_in.now AtLease (D.counted self.old.pass) (D.counted self.new.pass) (C.facts client) (C.facts result.0) result.1 }
     {
         let Some(server) = link.server_key() else {
             return self.relay(client, logged_in, link);
@@ -119,11 +119,11 @@ impl<'a, D: LinkDesk, G: Gate<D::End>> Worker<'a, D, G> {
         requires home { IsAtHome D.home link }
         requires own { (D.holder self.old.pass).lease ≡ Some (granted_lease link) }
         ensures linked { IfOk result (λ l. IsLinked D.home logged_in.now (D.holder self.new.pass) l) }
-        ensures told { IfOk result (λ l. D.told self.new.pass ≡ D.told self.old.pass) }
+        ensures counted { IfOk result (λ l. D.counted self.new.pass ≡ D.counted self.old.pass) }
         ensures holder { IfOk result (λ l. D.holder self.new.pass ≡ D.holder self.old.pass) }
         ensures strange { IfErr result (λ e. e ≡ ending.Strange) }
-        ensures lost { IfErr result (λ e. HadLink AtLease (D.told self.old.pass) (D.told self.new.pass) × HasLost (D.told self.old.pass) (D.told self.new.pass)) }
-        ensures share { IfErr result (λ e. Ends (D.told self.old.pass) (D.told self.new.pass)) }
+        ensures lost { IfErr result (λ e. HadLink AtLease (D.counted self.old.pass) (D.counted self.new.pass) × HasLost (D.counted self.old.pass) (D.counted self.new.pass)) }
+        ensures share { IfErr result (λ e. Ends (D.counted self.old.pass) (D.counted self.new.pass)) }
         ensures freed { IfErr result (λ e. D.holder self.new.pass ≡ without_lease Lost (D.holder self.old.pass)) }
     {
         let mut link = link;
@@ -145,11 +145,11 @@ impl<'a, D: LinkDesk, G: Gate<D::End>> Worker<'a, D, G> {
         requires own { (D.holder self.old.pass).lease ≡ Some (record { number = number; started_at = started_at; stage = Granted }) }
         requires logged_in { IsLoggedIn logged_in.now }
         ensures linked { IfOk result (λ l. IsLinked D.home logged_in.now (D.holder self.new.pass) l) }
-        ensures told { IfOk result (λ l. D.told self.new.pass ≡ D.told self.old.pass) }
+        ensures counted { IfOk result (λ l. D.counted self.new.pass ≡ D.counted self.old.pass) }
         ensures holder { IfOk result (λ l. D.holder self.new.pass ≡ D.holder self.old.pass) }
         ensures why { IfErr result (λ e. IsUnopened D.home logged_in.now e) }
         ensures word { LetsIn D.home logged_in.now.login → IfErr result (λ e. MayEnd [] (owed D.home.catalogue logged_in.now [] []) (final_message_of e)) }
-        ensures failed { IfErr result (λ e. (gone : Gone) × (D.told self.new.pass ≡ after_loss (D.told self.old.pass) gone)) }
+        ensures failed { IfErr result (λ e. (gone : Gone) × (D.counted self.new.pass ≡ after_loss (D.counted self.old.pass) gone)) }
         ensures freed { IfErr result (λ e. D.holder self.new.pass ≡ without_lease StartFailed (D.holder self.old.pass)) }
     {
         let opened = open_link(
@@ -170,7 +170,7 @@ impl<'a, D: LinkDesk, G: Gate<D::End>> Worker<'a, D, G> {
     fn take_in_turn(&mut self) -> Grant<D::End>
         requires here { IsSome (D.holder self.old.pass).client }
         requires none { (D.holder self.old.pass).lease ≡ None }
-        ensures told { D.told self.new.pass ≡ after_grant (D.told self.old.pass) result }
+        ensures counted { D.counted self.new.pass ≡ after_grant (D.counted self.old.pass) result }
         ensures holder { D.holder self.new.pass ≡ taken (D.holder self.old.pass) result }
         ensures refused { MayTake result }
         ensures home { IsGrantAtHome D.home result }
@@ -195,12 +195,12 @@ impl<'a, D: LinkDesk, G: Gate<D::End>> Worker<'a, D, G> {
         requires none { (D.holder self.old.pass).lease ≡ None }
         requires unrefused { (D.holder self.old.pass).refused ≡ None }
         ensures linked { IfOk result (λ l. IsLinked D.home logged_in.now (D.holder self.new.pass) l) }
-        ensures told { IfOk result (λ l. D.told self.new.pass ≡ one_granted (D.told self.old.pass)) }
+        ensures counted { IfOk result (λ l. D.counted self.new.pass ≡ one_granted (D.counted self.old.pass)) }
         ensures held { IfOk result (λ l. IsHeldBy (D.holder self.old.pass) (D.holder self.new.pass)) }
         ensures leased { IfErr result (λ e. HasLeased (D.holder self.old.pass) (D.holder self.new.pass) e) }
-        ensures share { IfErr result (λ e. Evens (D.told self.old.pass) (D.told self.new.pass)) }
-        ensures ended { IfErr result (λ e. IsEndedFor D.home logged_in.now AtWait (D.told self.old.pass) (D.told self.new.pass) e) }
-        ensures failed { IfErr result (λ e. lacks_place e ≡ true → IsNotStarted D.home logged_in.now AtWait (D.told self.old.pass) (D.told self.new.pass) e) }
+        ensures share { IfErr result (λ e. Evens (D.counted self.old.pass) (D.counted self.new.pass)) }
+        ensures ended { IfErr result (λ e. IsEndedFor D.home logged_in.now AtWait (D.counted self.old.pass) (D.counted self.new.pass) e) }
+        ensures failed { IfErr result (λ e. lacks_place e ≡ true → IsNotStarted D.home logged_in.now AtWait (D.counted self.old.pass) (D.counted self.new.pass) e) }
     {
         match self.take_in_turn() {
             Grant::Queued => Err(Ending::Left),
@@ -227,12 +227,12 @@ impl<'a, D: LinkDesk, G: Gate<D::End>> Worker<'a, D, G> {
         requires none { (D.holder self.old.pass).lease ≡ None }
         requires unrefused { (D.holder self.old.pass).refused ≡ None }
         ensures linked { IfOk result (λ l. IsLinked D.home logged_in.now (D.holder self.new.pass) l) }
-        ensures told { IfOk result (λ l. D.told self.new.pass ≡ one_granted (one_other (D.told self.old.pass))) }
+        ensures counted { IfOk result (λ l. D.counted self.new.pass ≡ one_granted (one_other (D.counted self.old.pass))) }
         ensures held { IfOk result (λ l. IsHeldBy (D.holder self.old.pass) (D.holder self.new.pass)) }
         ensures leased { IfErr result (λ e. HasLeased (D.holder self.old.pass) (D.holder self.new.pass) e) }
-        ensures share { IfErr result (λ e. Evens (D.told self.old.pass) (D.told self.new.pass)) }
-        ensures ended { IfErr result (λ e. IsEndedFor D.home logged_in.now AtAsking (D.told self.old.pass) (D.told self.new.pass) e) }
-        ensures failed { IfErr result (λ e. lacks_place e ≡ true → IsNotStarted D.home logged_in.now AtAsking (D.told self.old.pass) (D.told self.new.pass) e) }
+        ensures share { IfErr result (λ e. Evens (D.counted self.old.pass) (D.counted self.new.pass)) }
+        ensures ended { IfErr result (λ e. IsEndedFor D.home logged_in.now AtAsking (D.counted self.old.pass) (D.counted self.new.pass) e) }
+        ensures failed { IfErr result (λ e. lacks_place e ≡ true → IsNotStarted D.home logged_in.now AtAsking (D.counted self.old.pass) (D.counted self.new.pass) e) }
     {
         match self.desk.ask(&mut self.pass, &logged_in.key) {
             Asked::Queued(_) => self.take_link(logged_in),
@@ -246,7 +246,7 @@ impl<'a, D: LinkDesk, G: Gate<D::End>> Worker<'a, D, G> {
     /// it waits, for as long as a client may for its link, from its coming on.
     fn may_ask_again(&mut self, logged_in: &LoggedIn, ending: &Ending) -> bool
         requires here { IsSome (D.holder self.old.pass).client }
-        ensures told { D.told self.new.pass ≡ D.told self.old.pass }
+        ensures counted { D.counted self.new.pass ≡ D.counted self.old.pass }
         ensures holder { D.holder self.new.pass ≡ D.holder self.old.pass }
     {
         let seconds = logged_in.login.settings().query_wait_timeout();
@@ -279,11 +279,11 @@ impl<'a, D: LinkDesk, G: Gate<D::End>> Worker<'a, D, G> {
         requires none { (D.holder self.old.pass).lease ≡ None }
         requires unrefused { (D.holder self.old.pass).refused ≡ None }
         ensures linked { IfOk result (λ l. IsLinked D.home logged_in.now (D.holder self.new.pass) l) }
-        ensures told { IfOk result (λ l. IsGrantedAtLast D.home logged_in.now (D.told self.old.pass) (D.told self.new.pass)) }
+        ensures counted { IfOk result (λ l. IsGrantedAtLast D.home logged_in.now (D.counted self.old.pass) (D.counted self.new.pass)) }
         ensures held { IfOk result (λ l. IsHeldBy (D.holder self.old.pass) (D.holder self.new.pass)) }
         ensures leased { IfErr result (λ e. HasLeased (D.holder self.old.pass) (D.holder self.new.pass) e) }
-        ensures share { IfErr result (λ e. Evens (D.told self.old.pass) (D.told self.new.pass)) }
-        ensures ended { IfErr result (λ e. IsUnlinkedAtLast D.home logged_in.now (D.told self.old.pass) (D.told self.new.pass) e) }
+        ensures share { IfErr result (λ e. Evens (D.counted self.old.pass) (D.counted self.new.pass)) }
+        ensures ended { IfErr result (λ e. IsUnlinkedAtLast D.home logged_in.now (D.counted self.old.pass) (D.counted self.new.pass) e) }
     {
         for _ in 0..MAX_TURNS {
             match self.ask_link(logged_in) {
@@ -307,9 +307,9 @@ impl<'a, D: LinkDesk, G: Gate<D::End>> Worker<'a, D, G> {
         requires here { IsSome (D.holder self.old.pass).client }
         requires none { (D.holder self.old.pass).lease ≡ None }
         requires unrefused { (D.holder self.old.pass).refused ≡ None }
-        ensures share { Evens (D.told self.old.pass) (D.told self.new.pass) }
+        ensures share { Evens (D.counted self.old.pass) (D.counted self.new.pass) }
         ensures leased { HasLeased (D.holder self.old.pass) (D.holder self.new.pass) result.1 }
-        ensures ended { HasEndedAtLast D.home logged_in.now (D.told self.old.pass) (D.told self.new.pass) (C.facts client) (C.facts result.0) result.1 }
+        ensures ended { HasEndedAtLast D.home logged_in.now (D.counted self.old.pass) (D.counted self.new.pass) (C.facts client) (C.facts result.0) result.1 }
     {
         match self.link(logged_in) {
             Ok(link) => self.over_link(client, logged_in, link),

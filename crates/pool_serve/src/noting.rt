@@ -1,4 +1,4 @@
-//! What the pool's log is told of a client. No contract says what a log is told; the tests do.
+//! What is logged of a client. No contract says what is logged; the tests do.
 
 use crate::ending::Ending;
 use crate::logged_in::LoggedIn;
@@ -85,7 +85,7 @@ fn login_note<C: ClientEnd>(run: &LoginRun<C>) -> Option<Note<'_>> {
     }
 }
 
-/// Tells the log how a login ended that goes no further; of one that was late, unless it had been told why it is over.
+/// Logs how a login ended that goes no further; of one that was late, unless it had been told why it is over.
 pub(crate) fn note_login<C: ClientEnd, D: LinkDesk>(
     desk: &D,
     run: &LoginRun<C>,
@@ -101,7 +101,7 @@ pub(crate) fn note_login<C: ClientEnd, D: LinkDesk>(
     desk.note(&named(visit, number, run.key()), &note);
 }
 
-/// Tells the log whose statement a CancelRequest is for.
+/// Logs whose statement a CancelRequest is for.
 pub(crate) fn note_cancel<D: LinkDesk>(desk: &D, visit: Visit, cancelled: Cancelled) {
     let note = match cancelled {
         Cancelled::Strike(strike) => Note::Cancels(strike.link),
@@ -111,7 +111,7 @@ pub(crate) fn note_cancel<D: LinkDesk>(desk: &D, visit: Visit, cancelled: Cancel
     desk.note(&named(visit, None, None), &note);
 }
 
-/// Tells the log by what a client of the console was refused, if by anything, and that it is gone.
+/// Logs by what a client of the console was refused, if by anything, and that it is gone.
 pub(crate) fn note_end<D: LinkDesk>(desk: &D, client: &Client<'_>, last: Option<Refusal>) {
     if let Some(refusal) = last {
         desk.note(client, &Note::Refused(refusal));

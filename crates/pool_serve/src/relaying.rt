@@ -94,7 +94,7 @@ fn pumped<C: ClientEnd, E: ServerEnd, G: Gate<E>>(
 }
 
 impl<'a, D: LinkDesk, G: Gate<D::End>> Worker<'a, D, G> {
-    /// Relays over the client's link, of which the log is told, and gives that back, before the client is told why it is refused, if it is.
+    /// Relays over the client's link, which is logged, and gives that back, before the client is told why it is refused, if it is.
     pub(crate) fn relay<C: ClientEnd>(
         &mut self,
         client: C,
@@ -105,7 +105,7 @@ impl<'a, D: LinkDesk, G: Gate<D::End>> Worker<'a, D, G> {
         requires keyed { IsKeyed (D.holder self.old.pass) link logged_in.now.word link.server_key }
         requires settings { AreWithinBounds logged_in.now.login.settings }
         ensures tells { (C.facts result.0).tells ≡ (C.facts client).tells }
-        ensures share { Ends (D.told self.old.pass) (D.told self.new.pass) }
+        ensures share { Ends (D.counted self.old.pass) (D.counted self.new.pass) }
         ensures holder { IsBackOrLost (D.holder self.old.pass) (D.holder self.new.pass) }
         ensures ended { HasRelayed link logged_in.now (C.facts client) (C.facts result.0) result.1 }
         ensures serves { (C.facts client).tells ≡ true → link.stands.follows ≡ true → Serves (limit_of logged_in.now) link.stands.server.strikable (C.facts client) (C.facts result.0) (service_pieces link.stands.server.catalogue link.key logged_in.now.word) (final_message_of result.1) }

@@ -57,7 +57,7 @@ impl<'a, D: LinkDesk, G: Gate<D::End>> Worker<'a, D, G> {
     pub(crate) fn give_back(&mut self, link: CleanLink<D::End>)
         requires home { IsAtHome D.home link }
         requires own { (D.holder self.old.pass).lease ≡ Some (ended_lease link) }
-        ensures share { Ends (D.told self.old.pass) (D.told self.new.pass) }
+        ensures share { Ends (D.counted self.old.pass) (D.counted self.new.pass) }
         ensures holder { D.holder self.new.pass ≡ without_lease GiveBack (D.holder self.old.pass) }
         ensures turns { G.turns self.new.gate ≡ G.turns self.old.gate }
     {
@@ -73,7 +73,7 @@ impl<'a, D: LinkDesk, G: Gate<D::End>> Worker<'a, D, G> {
     /// Reports the client's link, of this number, lost.
     fn lose(&mut self, number: u64, why: Loss<'_>)
         requires some { IsSome (D.holder self.old.pass).lease }
-        ensures share { Ends (D.told self.old.pass) (D.told self.new.pass) }
+        ensures share { Ends (D.counted self.old.pass) (D.counted self.new.pass) }
         ensures holder { D.holder self.new.pass ≡ without_lease Lost (D.holder self.old.pass) }
         ensures turns { G.turns self.new.gate ≡ G.turns self.old.gate }
     {
@@ -85,7 +85,7 @@ impl<'a, D: LinkDesk, G: Gate<D::End>> Worker<'a, D, G> {
     pub(crate) fn give_back_unused(&mut self, logged_in: &LoggedIn, link: CleanLink<D::End>)
         requires home { IsAtHome D.home link }
         requires own { HasLease (D.holder self.old.pass) link.number link.started_at }
-        ensures share { Ends (D.told self.old.pass) (D.told self.new.pass) }
+        ensures share { Ends (D.counted self.old.pass) (D.counted self.new.pass) }
         ensures holder { IsBackByRelease (D.holder self.new.pass).release (D.holder self.old.pass) (D.holder self.new.pass) }
         ensures turns { G.turns self.new.gate ≡ G.turns self.old.gate }
     {
@@ -110,7 +110,7 @@ impl<'a, D: LinkDesk, G: Gate<D::End>> Worker<'a, D, G> {
     )
         requires home { IsAtHome D.home link }
         requires own { HasLease (D.holder self.old.pass) link.number link.started_at }
-        ensures share { Ends (D.told self.old.pass) (D.told self.new.pass) }
+        ensures share { Ends (D.counted self.old.pass) (D.counted self.new.pass) }
         ensures holder { IsBackByRelease (D.holder self.new.pass).release (D.holder self.old.pass) (D.holder self.new.pass) ⊎ IsFreed Lost (D.holder self.old.pass) (D.holder self.new.pass) }
         ensures turns { WaitsBehindEnd (D.holder self.new.pass).release (G.turns self.old.gate) (G.turns self.new.gate) }
     {
@@ -131,7 +131,7 @@ impl<'a, D: LinkDesk, G: Gate<D::End>> Worker<'a, D, G> {
     }
 
     /// Gives the link of a client whose time has ended, of this number, back: clean as it was, or reset; or offers its server a
-    /// Terminate and reports it lost. The log is told if its server's connection has ended, and what that said last.
+    /// Terminate and reports it lost. That its server's connection has ended is logged, and what that said last.
     pub(crate) fn hand_back(
         &mut self,
         logged_in: &LoggedIn,
@@ -142,7 +142,7 @@ impl<'a, D: LinkDesk, G: Gate<D::End>> Worker<'a, D, G> {
     )
         requires home { IsBackHome D.home link }
         requires own { IsOwnLease (D.holder self.old.pass) link }
-        ensures share { Ends (D.told self.old.pass) (D.told self.new.pass) }
+        ensures share { Ends (D.counted self.old.pass) (D.counted self.new.pass) }
         ensures holder { GoesBack link (D.holder self.old.pass) (D.holder self.new.pass) }
         ensures turns { IsResetBehindEnd link (D.holder self.new.pass) (G.turns self.old.gate) (G.turns self.new.gate) }
     {

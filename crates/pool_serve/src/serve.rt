@@ -78,7 +78,7 @@ fn drive_login<C: ClientEnd, E: ServerEnd, G: Gate<E>>(
 
 /// Has what the client of this key word is at cancelled, if it has a lease: the cancel goes to the server of its link.
 fn pass_on<D: LinkDesk>(desk: &D, pass: &mut D::Pass, client: KeyView) -> Cancelled
-    ensures told { D.told pass.new ≡ after_cancel (D.told pass.old) result }
+    ensures counted { D.counted pass.new ≡ after_cancel (D.counted pass.old) result }
     ensures holder { D.holder pass.new ≡ cancelled_by client (D.holder pass.old) result }
 {
     let cancelled = desk.cancel(pass, client);
@@ -89,7 +89,7 @@ fn pass_on<D: LinkDesk>(desk: &D, pass: &mut D::Pass, client: KeyView) -> Cancel
     cancelled
 }
 
-/// Ends a login that comes to no arrival: what it asked to be cancelled is passed on, or the log is told why it is over.
+/// Ends a login that comes to no arrival: what it asked to be cancelled is passed on, or it is logged why it is over.
 // for the same reason as `drive_login`
 #[inline(never)]
 fn dismiss<C: ClientEnd, D: LinkDesk>(
@@ -101,7 +101,7 @@ fn dismiss<C: ClientEnd, D: LinkDesk>(
 ) -> (C, D::Pass)
     ensures run { IsRun run }
     ensures client { C.facts result.0 ≡ run.client }
-    ensures pass { IsDismissed turn (D.told pass) (D.told result.1) (D.holder pass) (D.holder result.1) }
+    ensures pass { IsDismissed turn (D.counted pass) (D.counted result.1) (D.holder pass) (D.holder result.1) }
 {
     let mut pass = pass;
     match turn {
@@ -124,12 +124,12 @@ impl<'a, D: LinkDesk, G: Gate<D::End>> Worker<'a, D, G> {
         requires given { IsAllGiven run }
         requires word { run.login.word ≡ word }
         ensures tells { (C.facts result.0).tells ≡ run.client.tells }
-        ensures share { Evens (D.told self.old.pass) (D.told self.new.pass) }
+        ensures share { Evens (D.counted self.old.pass) (D.counted self.new.pass) }
         ensures holder { IsSameHolder (D.holder self.old.pass) (D.holder self.new.pass) }
-        ensures traces { Traces AtAsking (D.told self.old.pass) (D.told self.new.pass) result.1 }
+        ensures traces { Traces AtAsking (D.counted self.old.pass) (D.counted self.new.pass) result.1 }
         ensures refused { refusal_in result.1 ≡ None }
         ensures came { CameIn D.home run.login (C.facts result.0) result.1 }
-        ensures managed { IfManaged result.1 (IsManaged run.login (pass_of (D.told self.old.pass) (D.holder self.old.pass)) (pass_of (D.told self.new.pass) (D.holder self.new.pass)) (C.facts result.0)) }
+        ensures managed { IfManaged result.1 (IsManaged run.login (pass_of (D.counted self.old.pass) (D.holder self.old.pass)) (pass_of (D.counted self.new.pass) (D.holder self.new.pass)) (C.facts result.0)) }
         ensures serves { run.client.tells ≡ true → ServesAs D.home run.login (C.facts result.0) result.1 }
     {
         let key = own_key(&run);
@@ -160,11 +160,11 @@ impl<'a, D: LinkDesk, G: Gate<D::End>> Worker<'a, D, G> {
         requires none { (D.holder self.old.pass).lease ≡ None }
         requires unrefused { (D.holder self.old.pass).refused ≡ None }
         ensures tells { (C.facts result.0).tells ≡ run.client.tells }
-        ensures share { Evens (D.told self.old.pass) (D.told self.new.pass) }
+        ensures share { Evens (D.counted self.old.pass) (D.counted self.new.pass) }
         ensures leased { HasLeased (D.holder self.old.pass) (D.holder self.new.pass) result.1 }
-        ensures traces { TracesAtLast D.home run.login AtAsking (D.told self.old.pass) (D.told self.new.pass) result.1 }
+        ensures traces { TracesAtLast D.home run.login AtAsking (D.counted self.old.pass) (D.counted self.new.pass) result.1 }
         ensures came { CameIn D.home run.login (C.facts result.0) result.1 }
-        ensures managed { IfManaged result.1 (IsManaged run.login (pass_of (D.told self.old.pass) (D.holder self.old.pass)) (pass_of (D.told self.new.pass) (D.holder self.new.pass)) (C.facts result.0)) }
+        ensures managed { IfManaged result.1 (IsManaged run.login (pass_of (D.counted self.old.pass) (D.holder self.old.pass)) (pass_of (D.counted self.new.pass) (D.holder self.new.pass)) (C.facts result.0)) }
         ensures serves { run.client.tells ≡ true → LetsIn D.home run.login → ServesAs D.home run.login (C.facts result.0) result.1 }
     {
         bounded_rows_are_lawful();
@@ -191,7 +191,7 @@ impl<'a, D: LinkDesk, G: Gate<D::End>> Worker<'a, D, G> {
         }
     }
 
-    /// Serves a client that is through its login, and tells the log how it came and went.
+    /// Serves a client that is through its login, and logs how it came and went.
     // likewise
     #[inline(never)]
     fn host<C: ClientEnd>(&mut self, client: C, logged_in: &LoggedIn) -> (C, Ending)
@@ -199,9 +199,9 @@ impl<'a, D: LinkDesk, G: Gate<D::End>> Worker<'a, D, G> {
         requires here { IsSome (D.holder self.old.pass).client }
         requires none { (D.holder self.old.pass).lease ≡ None }
         requires unrefused { (D.holder self.old.pass).refused ≡ None }
-        ensures share { Evens (D.told self.old.pass) (D.told self.new.pass) }
+        ensures share { Evens (D.counted self.old.pass) (D.counted self.new.pass) }
         ensures leased { HasLeased (D.holder self.old.pass) (D.holder self.new.pass) result.1 }
-        ensures ended { HasEndedAtLast D.home logged_in.now (D.told self.old.pass) (D.told self.new.pass) (C.facts client) (C.facts result.0) result.1 }
+        ensures ended { HasEndedAtLast D.home logged_in.now (D.counted self.old.pass) (D.counted self.new.pass) (C.facts client) (C.facts result.0) result.1 }
     {
         self.gate.limit(None);
         self.note(&Note::LoggedIn);
@@ -222,15 +222,15 @@ impl<'a, D: LinkDesk, G: Gate<D::End>> Worker<'a, D, G> {
         requires free { (D.holder self.old.pass).client ≡ None }
         requires none { (D.holder self.old.pass).lease ≡ None }
         ensures tells { (C.facts result.0).tells ≡ run.client.tells }
-        ensures share { Settles (D.told self.old.pass) (D.told self.new.pass) }
+        ensures share { Settles (D.counted self.old.pass) (D.counted self.new.pass) }
         ensures free { (D.holder self.new.pass).client ≡ None }
         ensures none { (D.holder self.new.pass).lease ≡ None }
         ensures refused { (D.holder self.new.pass).refused ≡ refusal_in result.1 }
         ensures found { (D.holder self.new.pass).found ≡ (D.holder self.old.pass).found }
         ensures struck { (D.holder self.new.pass).struck ≡ (D.holder self.old.pass).struck }
-        ensures traces { TracesAtLast D.home run.login AtArrival (D.told self.old.pass) (D.told self.new.pass) result.1 }
+        ensures traces { TracesAtLast D.home run.login AtArrival (D.counted self.old.pass) (D.counted self.new.pass) result.1 }
         ensures came { CameIn D.home run.login (C.facts result.0) result.1 }
-        ensures managed { IfManaged result.1 (StayedAtConsole run.login (pass_of (D.told self.old.pass) (D.holder self.old.pass)) (pass_of (D.told self.new.pass) (D.holder self.new.pass)) (C.facts result.0)) }
+        ensures managed { IfManaged result.1 (StayedAtConsole run.login (pass_of (D.counted self.old.pass) (D.holder self.old.pass)) (pass_of (D.counted self.new.pass) (D.holder self.new.pass)) (C.facts result.0)) }
         ensures serves { run.client.tells ≡ true → LetsIn D.home run.login → ServesAs D.home run.login (C.facts result.0) result.1 }
     {
         runs_stand_at_pieces();
@@ -280,7 +280,7 @@ impl<'a, D: LinkDesk, G: Gate<D::End>> Worker<'a, D, G> {
 /// The time that the gate has at first is that of the login, up to where the client is let in: one that is late is closed without a byte,
 /// wherever its login stands, and leaves the desk. A client that may use places beyond the limit has [`LOGIN_BEYOND_SECONDS`] for it, from its arrival on.
 ///
-/// The log is told of its refusal, of a start that failed and of a link that is lost; `visit` is what it knows the client by.
+/// Its refusal, a start that failed and a link that is lost are logged; `visit` is what it knows the client by.
 pub fn serve<C: ClientEnd, D: LinkDesk, G: Gate<D::End> + Drop>(
     alloc: Global,
     desk: &D,
@@ -301,11 +301,11 @@ pub fn serve<C: ClientEnd, D: LinkDesk, G: Gate<D::End> + Drop>(
     requires free { (D.holder pass).client ≡ None }
     requires none { (D.holder pass).lease ≡ None }
     ensures tells { (C.facts result.0).tells ≡ (C.facts client).tells }
-    ensures allowed { (C.facts client).tells ≡ true → LetsIn D.home login → IsAllowed D.home login (D.told pass) (D.told result.1) (C.facts result.0) ⊎ IsAtConsole login (pass_of (D.told pass) (D.holder pass)) (pass_of (D.told result.1) (D.holder result.1)) (C.facts result.0) }
-    ensures share { Settles (D.told pass) (D.told result.1) }
+    ensures allowed { (C.facts client).tells ≡ true → LetsIn D.home login → IsAllowed D.home login (D.counted pass) (D.counted result.1) (C.facts result.0) ⊎ IsAtConsole login (pass_of (D.counted pass) (D.holder pass)) (pass_of (D.counted result.1) (D.holder result.1)) (C.facts result.0) }
+    ensures share { Settles (D.counted pass) (D.counted result.1) }
     ensures free { (D.holder result.1).client ≡ None }
     ensures none { (D.holder result.1).lease ≡ None }
-    ensures over { IsUntouched (D.told pass) (D.told result.1) (D.holder pass) (D.holder result.1) ⊎ IsPassedOn login (D.told pass) (D.told result.1) (D.holder pass) (D.holder result.1) (C.facts result.0) ⊎ IsOver D.home login (D.told pass) (D.told result.1) (D.holder pass) (D.holder result.1) (C.facts result.0) }
+    ensures over { IsUntouched (D.counted pass) (D.counted result.1) (D.holder pass) (D.holder result.1) ⊎ IsPassedOn login (D.counted pass) (D.counted result.1) (D.holder pass) (D.holder result.1) (C.facts result.0) ⊎ IsOver D.home login (D.counted pass) (D.counted result.1) (D.holder pass) (D.holder result.1) (C.facts result.0) }
 {
     runs_are_allowed();
     cancelling_runs_have_asked();

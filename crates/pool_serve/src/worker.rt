@@ -24,7 +24,7 @@ pub(crate) struct Worker<'a, D: LinkDesk, G> {
 }
 
 impl<'a, D: LinkDesk, G> Worker<'a, D, G> {
-    /// Tells the log of its client.
+    /// Logs a note of its client.
     pub(crate) fn note(&self, note: &Note<'_>) {
         let client = named(self.visit, self.number, self.own.as_ref());
         self.desk.note(&client, note);

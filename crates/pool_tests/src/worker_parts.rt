@@ -8,7 +8,7 @@ ghost use Rattle.pool_tests.specs.Words.{key_word};
 
 use arrayvec::ArrayString;
 use book_model::limits::{Limits, MAX_CLIENTS};
-use book_model::rows::{Row, Rows};
+use book_model::rows::{DatabaseRow, DatabaseRows};
 use desk_tallies::ledgers::Ledgers;
 use desk_tallies::passes::Pass;
 use link_desk::calls::Holder;
@@ -96,8 +96,8 @@ pub fn login(alloc: Global, number: u32) -> Result<Login, AllocError>
 }
 
 /// The database row of the settings, for pools of so many links.
-fn rows(alloc: Global, size: u32) -> Result<Rows, AllocError> {
-    let shop = Row {
+fn rows(alloc: Global, size: u32) -> Result<DatabaseRows, AllocError> {
+    let shop = DatabaseRow {
         name: Text::from_slice(alloc, b"shop")?,
         host: Host::local(),
         port: 5432,
@@ -106,7 +106,7 @@ fn rows(alloc: Global, size: u32) -> Result<Rows, AllocError> {
     };
     let mut rows = Vec::new(alloc);
     rows.push(shop)?;
-    Rows::new(alloc, rows)
+    DatabaseRows::new(alloc, rows)
 }
 
 /// Limits of so many clients and pools of so many links, a wait of 5 seconds, a lifetime of 3,600 and an idle timeout of 600.

@@ -55,7 +55,7 @@ impl<'a, R: Wait + Clock, D: LinkDesk> LinkDesk for WatchedDesk<'a, R, D> {
 
     ghost home = { D.home };
 
-    ghost told = { λ p. D.told p };
+    ghost counted = { λ p. D.counted p };
 
     ghost holder = { λ p. D.holder p };
 

@@ -183,7 +183,7 @@ pub struct Row {
     /// How many Terminates and resets the servers saw.
     pub terminates: u64,
     pub resets: u64,
-    /// Of how many logins the log is told that they were late, of how many starts, and of how many lost links that their servers'
+    /// Of how many logins it is logged that they were late, of how many starts, and of how many lost links that their servers'
     /// connections had ended.
     pub late_logins: u64,
     pub late_starts: u64,

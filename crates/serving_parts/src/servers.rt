@@ -38,8 +38,8 @@ pub enum Behind {
 pub(crate) const START_ERROR: &[u8] =
     b"E\0\0\0\x3eSFATAL\0VFATAL\0C57P03\0Mthe database system is starting up\0\0";
 
-/// How many Terminates, and how many resets, were written to the servers; and of how many logins that were late, starts that were late,
-/// and links whose servers' connections had ended the log was told.
+/// How many Terminates, and how many resets, were written to the servers; and how many logins that were late, starts that were late, and
+/// links whose servers' connections had ended were logged.
 #[derive(Drop)]
 pub(crate) struct Seen {
     pub terminates: AtomicU64,

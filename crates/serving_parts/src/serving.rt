@@ -36,7 +36,7 @@ enum Departure {
     Totals,
     /// What the servers saw.
     Seen,
-    /// What the log was told.
+    /// What was logged.
     Noted,
 }
 
@@ -47,7 +47,7 @@ impl Departure {
             Departure::Shown => "what the desk shows",
             Departure::Totals => "what the desk counted",
             Departure::Seen => "what the servers saw",
-            Departure::Noted => "what the log was told",
+            Departure::Noted => "what was logged",
         }
     }
 }

@@ -5,10 +5,10 @@ use crate::keys::{key, row};
 use crate::links::gone_link;
 use book_model::events::{Beyond, Event};
 use book_model::limits::Limits;
-use book_model::rows::Rows;
+use book_model::rows::DatabaseRows;
 use lease_book::book::Book;
-use lease_book::events::Event::{GiveBack, Plain};
-use lease_book::events::Reply;
+use lease_book::events::BookEvent::{GiveBack, Plain};
+use lease_book::events::BookReply;
 use link_run::links::CleanLink;
 use memory_ends::gone_end::GoneEnd;
 use start_keys::StartKey;
@@ -54,7 +54,7 @@ fn limits(alloc: Global) -> Result<Arc<Limits>, AllocError> {
         query_wait_timeout: 0,
         server_lifetime: 3_600,
         server_idle_timeout: 0,
-        rows: Rows::new(alloc, rows)?,
+        rows: DatabaseRows::new(alloc, rows)?,
     };
     Ok(Arc::new(alloc, limits)?)
 }
@@ -99,13 +99,13 @@ impl Bench {
     }
 
     /// What the book answers.
-    fn happens(&mut self, event: Event) -> Reply<GoneEnd> {
+    fn happens(&mut self, event: Event) -> BookReply<GoneEnd> {
         self.events = self.events.saturating_add(1);
         self.book.apply(0, Plain(event))
     }
 
     /// What it answers to a link that comes back.
-    fn comes_back(&mut self, link: CleanLink<GoneEnd>) -> Reply<GoneEnd> {
+    fn comes_back(&mut self, link: CleanLink<GoneEnd>) -> BookReply<GoneEnd> {
         self.events = self.events.saturating_add(1);
         self.book.apply(0, GiveBack(link))
     }
@@ -161,8 +161,8 @@ impl Bench {
             client: client.number,
         };
         match self.happens(take) {
-            Reply::Lend(link) => self.has(client, link),
-            Reply::Start {
+            BookReply::Lend(link) => self.has(client, link),
+            BookReply::Start {
                 number,
                 started_at,
                 ..
@@ -176,7 +176,7 @@ impl Bench {
         let arrival = Event::Arrive {
             beyond: Beyond::Nothing,
         };
-        let Reply::Client(number) = self.happens(arrival) else {
+        let BookReply::Client(number) = self.happens(arrival) else {
             return Err(AllocError);
         };
         let drawn = self.draw();

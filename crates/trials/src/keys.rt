@@ -1,5 +1,5 @@
 //! Keys and database rows.
-use book_model::rows::Row;
+use book_model::rows::DatabaseRow;
 use session_values::text::Text;
 use start_keys::{Host, StartKey};
 use std::alloc::{AllocError, Global};
@@ -27,8 +27,8 @@ pub(crate) fn key(
 }
 
 /// The database row of this name, for pools of so many links.
-pub(crate) fn row(alloc: Global, name: &[u8], size: u32) -> Result<Row, AllocError> {
-    Ok(Row {
+pub(crate) fn row(alloc: Global, name: &[u8], size: u32) -> Result<DatabaseRow, AllocError> {
+    Ok(DatabaseRow {
         name: Text::from_slice(alloc, name)?,
         host: Host::local(),
         port: 5432,

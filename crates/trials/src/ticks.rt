@@ -4,21 +4,21 @@ use crate::keys::{key, row};
 use crate::links::gone_link;
 use book_model::events::{Beyond, Event};
 use book_model::limits::Limits;
-use book_model::rows::Rows;
+use book_model::rows::DatabaseRows;
 use lease_book::book::Book;
-use lease_book::events::Event::{GiveBack, Plain};
-use lease_book::events::Reply;
+use lease_book::events::BookEvent::{GiveBack, Plain};
+use lease_book::events::BookReply;
 use memory_ends::gone_end::GoneEnd;
 use std::alloc::{AllocError, Global};
 use std::sync::Arc;
 
 /// So many rows, each named by its number.
-fn rows(alloc: Global, count: u64) -> Result<Rows, AllocError> {
+fn rows(alloc: Global, count: u64) -> Result<DatabaseRows, AllocError> {
     let mut rows = Vec::new(alloc);
     for number in 0..count {
         rows.push(row(alloc, &number.to_be_bytes(), 10_000)?)?;
     }
-    Rows::new(alloc, rows)
+    DatabaseRows::new(alloc, rows)
 }
 
 /// Links live for a day, and lie idle for as long.
@@ -44,7 +44,7 @@ struct Bench {
 
 impl Bench {
     /// What the book answers.
-    fn happens(&mut self, event: Event) -> Reply<GoneEnd> {
+    fn happens(&mut self, event: Event) -> BookReply<GoneEnd> {
         self.book.apply(0, Plain(event))
     }
 
@@ -53,13 +53,13 @@ impl Bench {
         let arrival = Event::Arrive {
             beyond: Beyond::Nothing,
         };
-        let Reply::Client(client) = self.happens(arrival) else {
+        let BookReply::Client(client) = self.happens(arrival) else {
             return Err(AllocError);
         };
         let key = key(self.alloc, &row.to_be_bytes(), own, 0)?;
         let of_link = Arc::try_clone(&key)?;
         drop(self.happens(Event::Ask { client, key }));
-        let Reply::Start {
+        let BookReply::Start {
             number,
             started_at,
             ..
@@ -77,7 +77,7 @@ impl Bench {
     fn seconds(&mut self, count: u64) -> u64 {
         let mut quiet: u64 = 0;
         for now in 0..count {
-            if matches!(self.happens(Event::Tick { now }), Reply::Done) {
+            if matches!(self.happens(Event::Tick { now }), BookReply::Done) {
                 quiet = quiet.saturating_add(1);
             }
         }

@@ -13,9 +13,9 @@ returns-in-Over g c = ended_further _ c.loop.counter _ c.loop.talk _ _ _ _ c.in-
 
 pub loop-preserved : goal.loop-preserved
 loop-preserved g c =
-    let began = pass_of (g.D.LinkDesk.told c.args.pass.now) (g.D.LinkDesk.holder c.args.pass.now) in
-    let before = pass_of (g.D.LinkDesk.told c.loop.pass) (g.D.LinkDesk.holder c.loop.pass) in
-    let after = pass_of (g.D.LinkDesk.told c.turn.new.pass) (g.D.LinkDesk.holder c.turn.new.pass) in
+    let began = pass_of (g.D.LinkDesk.counted c.args.pass.now) (g.D.LinkDesk.holder c.args.pass.now) in
+    let before = pass_of (g.D.LinkDesk.counted c.loop.pass) (g.D.LinkDesk.holder c.loop.pass) in
+    let after = pass_of (g.D.LinkDesk.counted c.turn.new.pass) (g.D.LinkDesk.holder c.turn.new.pass) in
     let who = asker c.args.console.now.settings.now c.args.console.now.who.now.user.now in
     elim c.match-turn.branch [
       | in-Again w ↦ goes_further who c.loop.counter 1 c.args.talk.now c.loop.talk c.turn.new.self began before after c.loop.invariant w.in-Again.ensures

@@ -4,7 +4,7 @@ use Rattle.book_model.specs.Book.{Book}
 use Rattle.book_model.specs.Events.{event_of}
 use Rattle.book_model.specs.Outcomes.{Answer, apply}
 use Rattle.book_model.specs.Replay.{noted_of}
-use Rattle.book_model.specs.declared.events.Reply.{Reply as ListsReply}
+use Rattle.book_model.specs.declared.events.Reply.{Reply}
 use Rattle.lease_book.specs.Links.{BookOf, StrikesInPlace, answered, found, goes_out, left}
 use Rattle.lease_book.proofs.Holding.{holds_after, named_after, once_idle}
 use Rattle.lease_book.proofs.Kept.{leads_on, noted_on}
@@ -57,6 +57,6 @@ returns-in-Plain g c =
       history = noted ∙ (ap (λ (x : BookOf). noted_of x.lists c.args.pass e x.history) c.self.view_is ∙ sym (p.history_is B c.args.pass c.args.self.now.history));
       reply = c.reply_with.ensures.reply ∙ told;
       place = subst (λ (x : Book). StrikesInPlace x c.reply_with.result) its_lists (place_before b c.apply-reply.new.self c.apply-reply.new.self e r c.reply_with.result refl c.apply-reply.ensures.book c.apply-reply.ensures.reply c.reply_with.ensures.reply c.reply_with.ensures.place);
-      idle = c.take-link.ensures.left ∙ (ap (λ (o : Option ℕ). left o idle) c.goes_out.ensures ∙ (ap (λ (x : ListsReply). left (goes_out x) idle) told ∙ (ap (λ (x : BookOf). left (goes_out (answered B c.args.event).reply) x.idle) c.self.view_is ∙ sym (p.idle_is _ c.args.self.now.idle))));
-      handed = c.reply_with.ensures.link ∙ (c.take-link.ensures.found ∙ (ap (λ (o : Option ℕ). found o idle) c.goes_out.ensures ∙ (ap (λ (x : ListsReply). found (goes_out x) idle) told ∙ (ap (λ (x : BookOf). found (goes_out (answered B c.args.event).reply) x.idle) c.self.view_is ∙ sym (p.handed_is _ c.args.self.now.idle)))));
+      idle = c.take-link.ensures.left ∙ (ap (λ (o : Option ℕ). left o idle) c.goes_out.ensures ∙ (ap (λ (x : Reply). left (goes_out x) idle) told ∙ (ap (λ (x : BookOf). left (goes_out (answered B c.args.event).reply) x.idle) c.self.view_is ∙ sym (p.idle_is _ c.args.self.now.idle))));
+      handed = c.reply_with.ensures.link ∙ (c.take-link.ensures.found ∙ (ap (λ (o : Option ℕ). found o idle) c.goes_out.ensures ∙ (ap (λ (x : Reply). found (goes_out x) idle) told ∙ (ap (λ (x : BookOf). found (goes_out (answered B c.args.event).reply) x.idle) c.self.view_is ∙ sym (p.handed_is _ c.args.self.now.idle)))));
     }

@@ -27,8 +27,8 @@ invariant_of-self g c = record {
 pub returns-clause-home : goal.returns-clause-home
 returns-clause-home g c = comes_home g.S.Outside.home c.args.event _ c.self.inside.book.idle _ c.self.invariant.at_home c.requires.home c.apply-reply.ensures.handed
 
-pub returns-clause-told : goal.returns-clause-told
-returns-clause-told g c =
+pub returns-clause-counted : goal.returns-clause-counted
+returns-clause-counted g c =
     let lists = c.apply-reply.new.self.lists in
     let now : made_of c.totals_of-totals.result ≡ class_counts lists.counts = c.totals_of-totals.ensures ∙ ap class_counts (c.counts.ensures ∙ ap (λ (b : Book). b.counts) c.lists-lists.ensures.lists) in
     pass_tells c.self.inside.book.lists c.args.event lists (reply_of c.apply-reply.result) c.self.inside.tallies (made_of c.totals_of-totals.result) c.args.pass.now.told c.count.new.pass.told

@@ -17,10 +17,10 @@ returns-in-Client-clause-managed g c =
     let here = c.arrive.new.self.pass in
     let served = c.serve_arrived-served.new.self.pass in
     let gone = c.leave.new.pass in
-    stayed c.args.run.login (pass_of (g.D.LinkDesk.told old) (g.D.LinkDesk.holder old)) (pass_of (g.D.LinkDesk.told gone) (g.D.LinkDesk.holder gone)) (pass_of (g.D.LinkDesk.told here) (g.D.LinkDesk.holder here)) (pass_of (g.D.LinkDesk.told served) (g.D.LinkDesk.holder served))
+    stayed c.args.run.login (pass_of (g.D.LinkDesk.counted old) (g.D.LinkDesk.holder old)) (pass_of (g.D.LinkDesk.counted gone) (g.D.LinkDesk.holder gone)) (pass_of (g.D.LinkDesk.counted here) (g.D.LinkDesk.holder here)) (pass_of (g.D.LinkDesk.counted served) (g.D.LinkDesk.holder served))
     (g.C.ClientEnd.facts c.serve_arrived-served.result.0)
     c.serve_arrived-served.result.1
-    (record { beyond = _; number = c.in-Client.number; let_in = c.in-Client.ensures.told; arrived_as = c.in-Client.ensures.holder; gone = c.leave.result; told = c.leave.ensures.told; has_left = c.leave.ensures.holder })
+    (record { beyond = _; number = c.in-Client.number; let_in = c.in-Client.ensures.counted; arrived_as = c.in-Client.ensures.holder; gone = c.leave.result; counted = c.leave.ensures.counted; has_left = c.leave.ensures.holder })
     (same_if_managed c.args.run c.go_on.new.self _ _ (g.C.ClientEnd.facts c.serve_arrived-served.result.0) c.serve_arrived-served.result.1 c.go_on.ensures.login c.serve_arrived-served.ensures.managed)
 
 pub returns-in-Client-clause-serves : goal.returns-in-Client-clause-serves
@@ -33,7 +33,7 @@ returns-in-Refused-clause-serves g c = λ t l. arrival_ends c.runs_stand_at_piec
 
 pub returns-in-Client-clause-traces : goal.returns-in-Client-clause-traces
 returns-in-Client-clause-traces g c =
-    stay_at_last _ c.args.run.login _ _ _ _ c.leave.result c.serve_arrived-served.result.1 c.in-Client.ensures.told c.leave.ensures.told (same_asking _ c.args.run c.go_on.new.self _ _ c.serve_arrived-served.result.1 c.go_on.ensures.login c.serve_arrived-served.ensures.traces)
+    stay_at_last _ c.args.run.login _ _ _ _ c.leave.result c.serve_arrived-served.result.1 c.in-Client.ensures.counted c.leave.ensures.counted (same_asking _ c.args.run c.go_on.new.self _ _ c.serve_arrived-served.result.1 c.go_on.ensures.login c.serve_arrived-served.ensures.traces)
 
 pub returns-in-Refused-clause-traces : goal.returns-in-Refused-clause-traces
-returns-in-Refused-clause-traces g c = asked_once _ c.args.run.login _ _ _ (arrival_traces _ _ c.in-Refused.refusal c.in-Refused.ensures.told c.in-Refused.ensures.refused)
+returns-in-Refused-clause-traces g c = asked_once _ c.args.run.login _ _ _ (arrival_traces _ _ c.in-Refused.refusal c.in-Refused.ensures.counted c.in-Refused.ensures.refused)

@@ -18,19 +18,19 @@ pub returns-then-not-lacks_place-clause-share : goal.returns-then-not-lacks_plac
 returns-then-not-lacks_place-clause-share g c = evens_both _ _ _ (again_evens c.loop.invariant.0) c.in-Err.ensures.share
 
 pub returns-then-not-lacks_place-clause-ended : goal.returns-then-not-lacks_place-clause-ended
-returns-then-not-lacks_place-clause-ended g c = record { last = g.D.LinkDesk.told c.loop.self.pass; again = c.loop.invariant.0; ended = c.in-Err.ensures.ended }
+returns-then-not-lacks_place-clause-ended g c = record { last = g.D.LinkDesk.counted c.loop.self.pass; again = c.loop.invariant.0; ended = c.in-Err.ensures.ended }
 
 pub returns-then-not-may_ask_again-clause-share : goal.returns-then-not-may_ask_again-clause-share
 returns-then-not-may_ask_again-clause-share g c =
-    subst (λ (q : PassOf). Evens (g.D.LinkDesk.told c.args.self.now.pass) q) (sym c.may_ask_again.ensures.told) (evens_both _ _ _ (again_evens c.loop.invariant.0) c.in-Err.ensures.share)
+    subst (λ (q : PassOf). Evens (g.D.LinkDesk.counted c.args.self.now.pass) q) (sym c.may_ask_again.ensures.counted) (evens_both _ _ _ (again_evens c.loop.invariant.0) c.in-Err.ensures.share)
 
 pub returns-then-not-may_ask_again-clause-ended : goal.returns-then-not-may_ask_again-clause-ended
 returns-then-not-may_ask_again-clause-ended g c =
-    let last = g.D.LinkDesk.told c.loop.self.pass in
+    let last = g.D.LinkDesk.counted c.loop.self.pass in
     record {
       last = last;
       again = c.loop.invariant.0;
-      ended = λ f. subst (λ (q : PassOf). HasEnded g.D.LinkDesk.home c.args.logged_in.now AtAsking last q f f c.in-Err.ending) (sym c.may_ask_again.ensures.told) (c.in-Err.ensures.ended f);
+      ended = λ f. subst (λ (q : PassOf). HasEnded g.D.LinkDesk.home c.args.logged_in.now AtAsking last q f f c.in-Err.ending) (sym c.may_ask_again.ensures.counted) (c.in-Err.ensures.ended f);
     }
 
 pub loop-preserved : goal.loop-preserved
@@ -39,7 +39,7 @@ loop-preserved g c =
     let failed = c.in-Err.ensures.failed lacks in
     let leased = c.in-Err.ensures.leased in
     let more = one_more _ _ c.in-Err.ending c.loop.invariant.0 lacks failed in (
-      subst (λ (q : PassOf). HasAskedAgain g.D.LinkDesk.home c.args.logged_in.now (g.D.LinkDesk.told c.args.self.now.pass) q) (sym c.may_ask_again.ensures.told) more,
+      subst (λ (q : PassOf). HasAskedAgain g.D.LinkDesk.home c.args.logged_in.now (g.D.LinkDesk.counted c.args.self.now.pass) q) (sym c.may_ask_again.ensures.counted) more,
       ap (λ (h : Holder). h.client) c.may_ask_again.ensures.holder ∙ (leased.client ∙ c.loop.invariant.1),
       ap (λ (h : Holder). h.lease) c.may_ask_again.ensures.holder ∙ leased.lease,
       ap (λ (h : Holder). h.refused) c.may_ask_again.ensures.holder ∙ (leased.refused ∙ ap refusal_in failed.is_ending),
@@ -52,7 +52,7 @@ returns-clause-share g c = again_evens c.loop.invariant.0
 
 pub returns-clause-ended : goal.returns-clause-ended
 returns-clause-ended g c = record {
-  last = g.D.LinkDesk.told c.loop.self.pass;
+  last = g.D.LinkDesk.counted c.loop.self.pass;
   again = c.loop.invariant.0;
   ended = λ f. record {
     tells = refl;
