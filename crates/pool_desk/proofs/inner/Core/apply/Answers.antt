@@ -31,5 +31,5 @@ pub returns-clause-counted : goal.returns-clause-counted
 returns-clause-counted g c =
     let lists = c.apply-reply.new.self.lists in
     let now : made_of c.totals_of-totals.result ≡ class_counts lists.counts = c.totals_of-totals.ensures ∙ ap class_counts (c.counts.ensures ∙ ap (λ (b : Book). b.counts) c.lists-lists.ensures.lists) in
-    pass_tells c.self.inside.book.lists c.args.event lists (reply_of c.apply-reply.result) c.self.inside.tallies (made_of c.totals_of-totals.result) c.args.pass.now.told c.count.new.pass.told
-    c.self.invariant.counted c.apply-reply.ensures.lists c.apply-reply.ensures.reply now c.count.ensures.made (c.count.ensures.broken ∙ ap (λ b. b || c.args.pass.now.told.is_broken) c.breaks.ensures)
+    pass_tells c.self.inside.book.lists c.args.event lists (reply_of c.apply-reply.result) c.self.inside.tallies (made_of c.totals_of-totals.result) c.args.pass.now.counted c.count.new.pass.counted
+    c.self.invariant.counted c.apply-reply.ensures.lists c.apply-reply.ensures.reply now c.count.ensures.made (c.count.ensures.broken ∙ ap (λ b. b || c.args.pass.now.counted.is_broken) c.breaks.ensures)
