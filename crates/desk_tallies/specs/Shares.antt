@@ -11,7 +11,7 @@ pub record SharesOf : Type 0 where
   pub parts : Made
   pub amounts : Made
 
--- a pass: its number, what it tells, and who holds it
+-- a pass: its number, what was counted on it, and who holds it
 pub record PassView : Type 0 where
   pub number : ℕ
   pub counted : PassOf

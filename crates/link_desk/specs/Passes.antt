@@ -1,4 +1,4 @@
--- What a pass tells: the decisions that were made through it, by class, and who holds it.
+-- What is counted on a pass: the decisions that were made through it, by class; and who holds it.
 use Rattle.std.specs.Prelude.{◌≡◌, ℕ, suc, Bool, true, false, Option, Some, None, option_map}
 use Rattle.message_view.specs.declared.refusal.Refusal.{Refusal}
 use Rattle.book_model.specs.declared.events.Beyond.{Beyond}

@@ -34,8 +34,8 @@ use std::alloc::{AllocError, Global};
 use std::sync::Arc;
 use std::time::Instant;
 
-/// A desk that lends links. Its calls are those of the lease book, each made through a pass, which tells how many decisions of each
-/// class were made through it, and who holds it: a client that came through it, and its link. So no call is given a number that its
+/// A desk that lends links. Its calls are those of the lease book, each made through a pass, on which it is counted how many decisions
+/// of each class were made through it, and which tells who holds it: a client that came through it, and its link. So no call is given a number that its
 /// pass knows: a client asks, takes and leaves by the number that it was given at its arrival, and it is its own link that comes back
 /// or is lost.
 pub trait LinkDesk {
