@@ -35,9 +35,9 @@ use std::sync::Arc;
 use std::time::Instant;
 
 /// A desk that lends links. Its calls are those of the lease book, each made through a pass, on which it is counted how many decisions
-/// of each class were made through it, and which tells who holds it: a client that came through it, and its link. So no call is given a number that its
-/// pass knows: a client asks, takes and leaves by the number that it was given at its arrival, and it is its own link that comes back
-/// or is lost.
+/// of each class were made through it, and which tells who holds it: a client that came through it, and its link. So no call is given
+/// a number that its pass knows: a client asks, takes and leaves by the number that it was given at its arrival, and it is its own
+/// link that comes back or is lost.
 pub trait LinkDesk {
     ghost use Rattle.link_desk.specs.Homes.{HomeOf};
     ghost use Rattle.link_desk.specs.Passes.{PassOf};
