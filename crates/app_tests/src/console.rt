@@ -44,7 +44,7 @@ const SYNTAX: &[u8] = b"E\0\0\0\x28SERROR\0VERROR\0C42601\0Msyntax error\0\0Z\0\
 
 #[test]
 fn commands(rt: HostRuntime) -> Result<(), Fail> {
-    let rows: [(&[u8], &[u8]); 15] = [
+    let rows: &[(&[u8], &[u8])] = &[
         (b"SHOW VERSION;", VERSION),
         (b"show version", VERSION),
         (
@@ -70,7 +70,7 @@ fn commands(rt: HostRuntime) -> Result<(), Fail> {
         (b"wait_close", b"C\0\0\0\x0fWAIT_CLOSE\0Z\0\0\0\x05I"),
         (b"WAIT_CLOSE shop;", b"C\0\0\0\x0fWAIT_CLOSE\0Z\0\0\0\x05I"),
     ];
-    for (command, wanted) in rows {
+    for &(command, wanted) in rows {
         assert!(rt; is_answer(rt.alloc(), command, wanted)?);
     }
     Ok(())
@@ -78,7 +78,7 @@ fn commands(rt: HostRuntime) -> Result<(), Fail> {
 
 #[test]
 fn no_commands(rt: HostRuntime) -> Result<(), Fail> {
-    let rows: [&[u8]; 33] = [
+    let rows: &[&[u8]] = &[
         b"",
         b";",
         b"  ",
@@ -113,7 +113,7 @@ fn no_commands(rt: HostRuntime) -> Result<(), Fail> {
         b"WAIT_CLOSE \"a\"b",
         b"WAIT_CLOSE ;;",
     ];
-    for command in rows {
+    for &command in rows {
         assert!(rt; is_answer(rt.alloc(), command, SYNTAX)?);
     }
     Ok(())
@@ -129,7 +129,7 @@ fn awaited(text: &[u8]) -> Option<&[u8]> {
 
 #[test]
 fn databases_that_are_awaited(rt: HostRuntime) {
-    let rows: [(&[u8], Option<&[u8]>); 8] = [
+    let rows: &[(&[u8], Option<&[u8]>)] = &[
         (b"WAIT_CLOSE", None),
         (b"WAIT_CLOSE;", None),
         (b"WAIT_CLOSE shop", Some(b"shop")),
@@ -139,7 +139,7 @@ fn databases_that_are_awaited(rt: HostRuntime) {
         (b"WAIT_CLOSE\"shop\"", Some(b"shop")),
         (b"WAIT_CLOSE \"\"", Some(b"")),
     ];
-    for (text, wanted) in rows {
+    for &(text, wanted) in rows {
         assert!(rt; awaited(text) == wanted);
     }
 }
@@ -191,12 +191,12 @@ fn shows(
 #[test]
 fn tables_without_rows(rt: HostRuntime) -> Result<(), Fail> {
     let view = view(rt.alloc(), &NOTHING)?;
-    let rows: [(&[u8], &[u8]); 3] = [
+    let rows: &[(&[u8], &[u8])] = &[
         (b"SHOW POOLS", POOLS_HEADING),
         (b"SHOW CLIENTS", CLIENTS_HEADING),
         (b"SHOW SERVERS", SERVERS_HEADING),
     ];
-    for (command, heading) in rows {
+    for &(command, heading) in rows {
         assert!(rt; shows(rt.alloc(), &view, command, heading, &[])?);
     }
     Ok(())
@@ -232,7 +232,7 @@ const BUSY: Rows = Rows {
 };
 
 /// By database, then user, in the order of their bytes.
-const POOLS: [&[u8]; 7] = [
+const POOLS: &[&[u8]] = &[
     b"D\0\0\0\x29\0\x06\0\0\0\x04Shop\0\0\0\x03ann\0\0\0\x010\0\0\0\x010\0\0\0\x010\0\0\0\x011",
     b"D\0\0\0\x29\0\x06\0\0\0\x04a\"b\n\0\0\0\x03zed\0\0\0\x010\0\0\0\x011\0\0\0\x010\0\0\0\x010",
     b"D\0\0\0\x2a\0\x06\0\0\0\x04shop\0\0\0\x042ann\0\0\0\x011\0\0\0\x010\0\0\0\x011\0\0\0\x010",
@@ -243,7 +243,7 @@ const POOLS: [&[u8]; 7] = [
 ];
 
 /// By number, not by its text.
-const SERVERS: [&[u8]; 7] = [
+const SERVERS: &[&[u8]] = &[
     b"D\0\0\0\x22\0\x04\0\0\0\x012\0\0\0\x04Shop\0\0\0\x03ann\0\0\0\x04idle",
     b"D\0\0\0\x22\0\x04\0\0\0\x013\0\0\0\x04shop\0\0\0\x03ann\0\0\0\x04idle",
     b"D\0\0\0\x24\0\x04\0\0\0\x019\0\0\0\x04shop\0\0\0\x03ann\0\0\0\x06active",
@@ -253,7 +253,7 @@ const SERVERS: [&[u8]; 7] = [
     b"D\0\0\0\x26\0\x04\0\0\0\x03100\0\0\0\x04shop\0\0\0\x03ann\0\0\0\x06active",
 ];
 
-const CLIENTS: [&[u8]; 5] = [
+const CLIENTS: &[&[u8]] = &[
     b"D\0\0\0\x15\0\x02\0\0\0\x011\0\0\0\x06active",
     b"D\0\0\0\x16\0\x02\0\0\0\x012\0\0\0\x07waiting",
     b"D\0\0\0\x14\0\x02\0\0\0\x019\0\0\0\x05login",
@@ -261,20 +261,20 @@ const CLIENTS: [&[u8]; 5] = [
     b"D\0\0\0\x29\0\x02\0\0\0\x1418446744073709551615\0\0\0\x07waiting",
 ];
 
-const TOTALS: [&[u8]; 1] = [
+const TOTALS: &[&[u8]] = &[
     b"D\0\0\0\x34\0\x05\0\0\0\x1418446744073709551615\0\0\0\x0212\0\0\0\x010\0\0\0\x013\0\0\0\x0210",
 ];
 
 #[test]
 fn tables(rt: HostRuntime) -> Result<(), Fail> {
     let view = view(rt.alloc(), &BUSY)?;
-    let rows: [(&[u8], &[u8], &[&[u8]]); 4] = [
-        (b"SHOW POOLS", POOLS_HEADING, &POOLS),
-        (b"SHOW SERVERS", SERVERS_HEADING, &SERVERS),
-        (b"SHOW CLIENTS", CLIENTS_HEADING, &CLIENTS),
-        (b"SHOW TOTALS", TOTALS_HEADING, &TOTALS),
+    let rows: &[(&[u8], &[u8], &[&[u8]])] = &[
+        (b"SHOW POOLS", POOLS_HEADING, POOLS),
+        (b"SHOW SERVERS", SERVERS_HEADING, SERVERS),
+        (b"SHOW CLIENTS", CLIENTS_HEADING, CLIENTS),
+        (b"SHOW TOTALS", TOTALS_HEADING, TOTALS),
     ];
-    for (command, heading, rows) in rows {
+    for &(command, heading, rows) in rows {
         assert!(rt; shows(rt.alloc(), &view, command, heading, rows)?);
     }
     Ok(())
@@ -297,7 +297,7 @@ fn one_pool(rt: HostRuntime) -> Result<(), Fail> {
 }
 
 /// What an empty file says.
-const DEFAULTS: [&[u8]; 33] = [
+const DEFAULTS: &[&[u8]] = &[
     b"D\0\0\0\x22\0\x02\0\0\0\x0blisten_addr\0\0\0\x09127.0.0.1",
     b"D\0\0\0\x1d\0\x02\0\0\0\x0blisten_port\0\0\0\x046432",
     b"D\0\0\0\x1a\0\x02\0\0\0\x09auth_type\0\0\0\x03md5",
@@ -334,7 +334,7 @@ const DEFAULTS: [&[u8]; 33] = [
 ];
 
 /// What the next one says.
-const CHANGED: [&[u8]; 33] = [
+const CHANGED: &[&[u8]] = &[
     b"D\0\0\0\x24\0\x02\0\0\0\x0blisten_addr\0\0\0\x0b0.0.0.0,::1",
     b"D\0\0\0\x1a\0\x02\0\0\0\x0blisten_port\0\0\0\x011",
     b"D\0\0\0\x1c\0\x02\0\0\0\x09auth_type\0\0\0\x05plain",
@@ -376,8 +376,8 @@ const FILE: &[u8] =
 #[test]
 fn settings(rt: HostRuntime) -> Result<(), Fail> {
     let view = view(rt.alloc(), &NOTHING)?;
-    let rows: [(&[u8], &[&[u8]]); 2] = [(b"", &DEFAULTS), (FILE, &CHANGED)];
-    for (file, rows) in rows {
+    let rows: &[(&[u8], &[&[u8]])] = &[(b"", DEFAULTS), (FILE, CHANGED)];
+    for &(file, rows) in rows {
         let out = answered(rt.alloc(), &view, file, b"SHOW CONFIG")?;
         assert!(rt; are_pieces(out.as_slice(), CONFIG_HEADING, rows, END));
     }
@@ -444,7 +444,7 @@ fn told(response: Response<'_>) -> &[u8] {
 }
 
 /// A message by its type and body, and what it is answered by: where messages aren't dropped, and where they are.
-const MESSAGES: [(u8, &[u8], &[u8], &[u8]); 12] = [
+const MESSAGES: &[(u8, &[u8], &[u8], &[u8])] = &[
     (b'Q', b"PAUSE\0", b"PAUSE", b"nothing"),
     (b'Q', b"\0", b"", b"nothing"),
     (b'Q', b"PAUSE", b"malformed", b"nothing"),
@@ -461,7 +461,7 @@ const MESSAGES: [(u8, &[u8], &[u8], &[u8]); 12] = [
 
 #[test]
 fn messages(rt: HostRuntime) {
-    for (kind, body, wanted, where_dropped) in MESSAGES {
+    for &(kind, body, wanted, where_dropped) in MESSAGES {
         let frame = Frame {
             kind,
             body,

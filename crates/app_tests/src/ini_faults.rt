@@ -213,7 +213,7 @@ const LONG_LIST: &str =
 
 #[test]
 fn no_hosts(rt: HostRuntime) -> Result<(), Fail> {
-    let hosts: [&str; 25] = [
+    let hosts: &[&str] = &[
         "",
         "a,",
         "a,,b",
@@ -240,7 +240,7 @@ fn no_hosts(rt: HostRuntime) -> Result<(), Fail> {
         LONG_FOLDER,
         LONG_LIST,
     ];
-    for host in hosts {
+    for &host in hosts {
         let text = format!(in rt.alloc(); "[databases]\nx = host={host}")?;
         assert!(rt; fault(rt.alloc(), text.as_bytes()) == Some((IniCause::BadValue, 2)));
     }
@@ -249,7 +249,7 @@ fn no_hosts(rt: HostRuntime) -> Result<(), Fail> {
 
 #[test]
 fn no_values_of_sockets(rt: HostRuntime) -> Result<(), Fail> {
-    let rows: [(&str, &str); 19] = [
+    let rows: &[(&str, &str)] = &[
         ("listen_addr", ""),
         ("listen_addr", " , "),
         ("listen_addr", "/run/pool"),
@@ -270,7 +270,7 @@ fn no_values_of_sockets(rt: HostRuntime) -> Result<(), Fail> {
         ("tcp_user_timeout", "2147483648"),
         ("tcp_user_timeout", "-1"),
     ];
-    for (key, value) in rows {
+    for &(key, value) in rows {
         let text = format!(in rt.alloc(); "[pgbouncer]\n{key} = {value}")?;
         assert!(rt; fault(rt.alloc(), text.as_bytes()) == Some((IniCause::BadValue, 2)));
     }
@@ -279,7 +279,7 @@ fn no_values_of_sockets(rt: HostRuntime) -> Result<(), Fail> {
 
 #[test]
 fn no_values_of_figures(rt: HostRuntime) -> Result<(), Fail> {
-    let rows: [(&str, &str); 15] = [
+    let rows: &[(&str, &str)] = &[
         ("console_style", ""),
         ("console_style", "PgBouncer"),
         ("console_style", "own"),
@@ -296,7 +296,7 @@ fn no_values_of_figures(rt: HostRuntime) -> Result<(), Fail> {
         ("metrics_port", "0"),
         ("metrics_port", "65536"),
     ];
-    for (key, value) in rows {
+    for &(key, value) in rows {
         let text = format!(in rt.alloc(); "[pgbouncer]\n{key} = {value}")?;
         assert!(rt; fault(rt.alloc(), text.as_bytes()) == Some((IniCause::BadValue, 2)));
     }

@@ -43,11 +43,11 @@ fn rows_in_their_order(rt: HostRuntime) -> Result<(), Fail> {
 #[test]
 fn what_rows_say(rt: HostRuntime) -> Result<(), Fail> {
     let settings = read_settings(rt.alloc(), ROWS)?;
-    let rows: [(&[u8], &[u8], u16, &[u8]); 2] = [
+    let rows: &[(&[u8], &[u8], u16, &[u8])] = &[
         (b"shop", b"127.0.0.1", 5433, b"shop"),
         (b"b", b"10.0.0.255", 5432, b"a=b"),
     ];
-    for (name, host, port, dbname) in rows {
+    for &(name, host, port, dbname) in rows {
         assert!(rt; has_row(&settings, name, host, port, dbname));
     }
     Ok(())
@@ -56,8 +56,8 @@ fn what_rows_say(rt: HostRuntime) -> Result<(), Fail> {
 #[test]
 fn pool_sizes(rt: HostRuntime) -> Result<(), Fail> {
     let settings = read_settings(rt.alloc(), ROWS)?;
-    let sizes: [(&[u8], u32); 3] = [(b"shop", 2), (b"b", 7), (b"Shop", 0)];
-    for (name, size) in sizes {
+    let sizes: &[(&[u8], u32)] = &[(b"shop", 2), (b"b", 7), (b"Shop", 0)];
+    for &(name, size) in sizes {
         assert!(rt; pool_size(&settings, name) == size);
     }
     Ok(())
@@ -82,11 +82,11 @@ fn numbers(settings: &Settings) -> [u32; 8] {
 
 #[test]
 fn settings_of_numbers(rt: HostRuntime) -> Result<(), Fail> {
-    let files: [(&[u8], [u32; 8]); 2] = [
+    let files: &[(&[u8], [u32; 8])] = &[
         (b"", [6432, 100, 20, 1000, 120, 3600, 600, 2_147_483_647]),
         (EVERY_KEY, [1, 10_000, 3, 4, 0, 5, 2_147_483_647, 1024]),
     ];
-    for (text, expected) in files {
+    for &(text, expected) in files {
         let settings = read_settings(rt.alloc(), text)?;
         assert!(rt; numbers(&settings) == expected);
     }
@@ -113,7 +113,7 @@ fn has_choices(settings: &Settings, addresses: &[&[u8]], auth_type: AuthType) ->
 
 #[test]
 fn settings_of_choices(rt: HostRuntime) -> Result<(), Fail> {
-    let files: [(&[u8], &[&[u8]], AuthType); 3] = [
+    let files: &[(&[u8], &[&[u8]], AuthType)] = &[
         (b"", &[b"127.0.0.1"], AuthType::Md5),
         (
             b"[pgbouncer]\nauth_type = scram-sha-256",
@@ -126,7 +126,7 @@ fn settings_of_choices(rt: HostRuntime) -> Result<(), Fail> {
             AuthType::Plain,
         ),
     ];
-    for (text, addresses, auth_type) in files {
+    for &(text, addresses, auth_type) in files {
         let settings = read_settings(rt.alloc(), text)?;
         assert!(rt; has_choices(&settings, addresses, auth_type));
     }
@@ -135,7 +135,7 @@ fn settings_of_choices(rt: HostRuntime) -> Result<(), Fail> {
 
 #[test]
 fn settings_of_the_log(rt: HostRuntime) -> Result<(), Fail> {
-    let files: [(&[u8], [bool; 2]); 4] = [
+    let files: &[(&[u8], [bool; 2])] = &[
         (b"", [false, false]),
         (b"[pgbouncer]\nlog_connections = 1\n", [true, false]),
         (b"[pgbouncer]\nlog_disconnections=1\n", [false, true]),
@@ -144,7 +144,7 @@ fn settings_of_the_log(rt: HostRuntime) -> Result<(), Fail> {
             [false, false],
         ),
     ];
-    for (text, expected) in files {
+    for &(text, expected) in files {
         let settings = read_settings(rt.alloc(), text)?;
         assert!(rt; [settings.log_connections(), settings.log_disconnections()] == expected);
     }
@@ -163,12 +163,12 @@ fn lengths(settings: &Settings) -> [usize; 4] {
 
 #[test]
 fn settings_of_names(rt: HostRuntime) -> Result<(), Fail> {
-    let files: [(&[u8], [usize; 4]); 3] = [
+    let files: &[(&[u8], [usize; 4])] = &[
         (b"", [0, 0, 1, 0]),
         (EVERY_KEY, [2, 2, 1, 2]),
         (b"[pgbouncer]\nuntrack_parameters = ,\n", [0, 0, 1, 0]),
     ];
-    for (text, expected) in files {
+    for &(text, expected) in files {
         let settings = read_settings(rt.alloc(), text)?;
         assert!(rt; lengths(&settings) == expected);
     }
@@ -188,7 +188,7 @@ fn roles(settings: &Settings, name: &[u8]) -> [bool; 4] {
 #[test]
 fn names_are_found(rt: HostRuntime) -> Result<(), Fail> {
     let settings = read_settings(rt.alloc(), EVERY_KEY)?;
-    let rows: [(&[u8], [bool; 4]); 6] = [
+    let rows: &[(&[u8], [bool; 4])] = &[
         (b"Ann", [true, false, false, false]),
         (b"ann", [false, false, false, false]),
         (b"options", [false, true, false, false]),
@@ -196,7 +196,7 @@ fn names_are_found(rt: HostRuntime) -> Result<(), Fail> {
         (b"IntervalStyle", [false, false, false, false]),
         (b"Application_Name", [false, false, false, true]),
     ];
-    for (name, expected) in rows {
+    for &(name, expected) in rows {
         assert!(rt; roles(&settings, name) == expected);
     }
     Ok(())
@@ -233,7 +233,7 @@ const MAX_LIST: &str =
 
 #[test]
 fn hosts_of_rows(rt: HostRuntime) -> Result<(), Fail> {
-    let hosts: [(&str, &str); 14] = [
+    let hosts: &[(&str, &str)] = &[
         ("localhost", "127.0.0.1"),
         ("::", "::"),
         ("::1", "::1"),
@@ -249,7 +249,7 @@ fn hosts_of_rows(rt: HostRuntime) -> Result<(), Fail> {
         (MAX_FOLDER, MAX_FOLDER),
         (MAX_LIST, MAX_LIST),
     ];
-    for (said, kept) in hosts {
+    for &(said, kept) in hosts {
         let text = format!(in rt.alloc(); "[databases]\nx = host={said}")?;
         let settings = read_settings(rt.alloc(), text.as_bytes())?;
         assert!(rt; has_row(&settings, b"x", kept.as_bytes(), 5432, b"x"));
@@ -265,12 +265,12 @@ fn user_and_password<'a>(settings: &'a Settings) -> Option<(Option<&'a [u8]>, Op
 
 #[test]
 fn users_of_rows(rt: HostRuntime) -> Result<(), Fail> {
-    let rows: [(&str, Option<&[u8]>, Option<&[u8]>); 3] = [
+    let rows: &[(&str, Option<&[u8]>, Option<&[u8]>)] = &[
         ("", None, None),
         ("user=app", Some(b"app"), None),
         ("password=a=b user=app", Some(b"app"), Some(b"a=b")),
     ];
-    for (said, user, password) in rows {
+    for &(said, user, password) in rows {
         let text = format!(in rt.alloc(); "[databases]\nx = host=db {said}")?;
         let settings = read_settings(rt.alloc(), text.as_bytes())?;
         assert!(rt; user_and_password(&settings) == Some((user, password)));
@@ -297,8 +297,8 @@ fn the_row_of_a_star(rt: HostRuntime) -> Result<(), Fail> {
     let label = MAX_LABEL.as_bytes();
     assert!(rt; has_row(&settings, b"shop", b"::1", 5432, b"shop"));
     assert!(rt; has_row(&settings, label, b"db", 6000, label));
-    let others: [&[u8]; 3] = [b"", b"a\0b", &MAX_LIST.as_bytes()[..64]];
-    for name in others {
+    let others: &[&[u8]] = &[b"", b"a\0b", &MAX_LIST.as_bytes()[..64]];
+    for &name in others {
         assert!(rt; settings.row(name).is_none());
     }
     let named = read_settings(rt.alloc(), b"[databases]\n* = host=db dbname=press")?;
@@ -308,14 +308,14 @@ fn the_row_of_a_star(rt: HostRuntime) -> Result<(), Fail> {
 
 #[test]
 fn addresses_that_are_listened_on(rt: HostRuntime) -> Result<(), Fail> {
-    let rows: [(&str, &[&[u8]]); 5] = [
+    let rows: &[(&str, &[&[u8]])] = &[
         ("*", &[b"0.0.0.0"]),
         ("::", &[b"::"]),
         ("localhost", &[b"127.0.0.1"]),
         ("pool-1.example", &[b"pool-1.example"]),
         (" ::1 ,,10.0.0.1", &[b"::1", b"10.0.0.1"]),
     ];
-    for (said, kept) in rows {
+    for &(said, kept) in rows {
         let text = format!(in rt.alloc(); "[pgbouncer]\nlisten_addr = {said}")?;
         let settings = read_settings(rt.alloc(), text.as_bytes())?;
         assert!(rt; are(settings.listen_addr(), kept));
@@ -337,7 +337,7 @@ fn socket_numbers(settings: &Settings) -> [u32; 6] {
 
 #[test]
 fn settings_of_sockets(rt: HostRuntime) -> Result<(), Fail> {
-    let files: [(&[u8], [u32; 6], bool); 4] = [
+    let files: &[(&[u8], [u32; 6], bool)] = &[
         (b"", [0o777, 0, 0, 0, 0, 0], true),
         (EVERY_KEY, [0o660, 127, 60, 10, 5, 2_147_483_647], false),
         (
@@ -351,7 +351,7 @@ fn settings_of_sockets(rt: HostRuntime) -> Result<(), Fail> {
             true,
         ),
     ];
-    for (text, numbers, keeps_alive) in files {
+    for &(text, numbers, keeps_alive) in files {
         let settings = read_settings(rt.alloc(), text)?;
         assert!(rt; socket_numbers(&settings) == numbers);
         assert!(rt; settings.tcp_keepalive() == keeps_alive);
@@ -361,7 +361,7 @@ fn settings_of_sockets(rt: HostRuntime) -> Result<(), Fail> {
 
 #[test]
 fn the_unix_socket(rt: HostRuntime) -> Result<(), Fail> {
-    let files: [(&[u8], &[u8], &[u8]); 3] = [
+    let files: &[(&[u8], &[u8], &[u8])] = &[
         (b"", b"", b""),
         (EVERY_KEY, b"/run/pool", b"www"),
         (
@@ -370,7 +370,7 @@ fn the_unix_socket(rt: HostRuntime) -> Result<(), Fail> {
             b"",
         ),
     ];
-    for (text, folder, group) in files {
+    for &(text, folder, group) in files {
         let settings = read_settings(rt.alloc(), text)?;
         assert!(rt; settings.unix_socket_dir() == folder);
         assert!(rt; settings.unix_socket_group() == group);
@@ -393,7 +393,7 @@ fn figure_numbers(settings: &Settings) -> [u32; 4] {
 
 #[test]
 fn settings_of_figures(rt: HostRuntime) -> Result<(), Fail> {
-    let files: [(&[u8], [u32; 4], bool, ConsoleStyle); 3] = [
+    let files: &[(&[u8], [u32; 4], bool, ConsoleStyle)] = &[
         (b"", [15, 60, 60, 9127], true, ConsoleStyle::Own),
         (
             FIGURES,
@@ -408,7 +408,7 @@ fn settings_of_figures(rt: HostRuntime) -> Result<(), Fail> {
             ConsoleStyle::Own,
         ),
     ];
-    for (text, numbers, is_logged, style) in files {
+    for &(text, numbers, is_logged, style) in files {
         let settings = read_settings(rt.alloc(), text)?;
         assert!(rt; figure_numbers(&settings) == numbers);
         assert!(rt; settings.log_stats() == is_logged);
@@ -419,11 +419,11 @@ fn settings_of_figures(rt: HostRuntime) -> Result<(), Fail> {
 
 #[test]
 fn addresses_of_figures(rt: HostRuntime) -> Result<(), Fail> {
-    let files: [(&[u8], &[&[u8]], usize); 2] = [
+    let files: &[(&[u8], &[&[u8]], usize)] = &[
         (b"", &[], 0),
         (FIGURES, &[b"127.0.0.1", b"::1"], 2),
     ];
-    for (text, addresses, users) in files {
+    for &(text, addresses, users) in files {
         let settings = read_settings(rt.alloc(), text)?;
         assert!(rt; are(settings.metrics_addr(), addresses));
         assert!(rt; settings.stats_users().len() == users);
@@ -435,13 +435,13 @@ fn addresses_of_figures(rt: HostRuntime) -> Result<(), Fail> {
 #[test]
 fn who_may_look(rt: HostRuntime) -> Result<(), Fail> {
     let settings = read_settings(rt.alloc(), FIGURES)?;
-    let rows: [(&[u8], bool); 4] = [
+    let rows: &[(&[u8], bool)] = &[
         (b"Mon", true),
         (b"mon", false),
         (b"\"a b\"", true),
         (b"", false),
     ];
-    for (user, looks) in rows {
+    for &(user, looks) in rows {
         assert!(rt; settings.may_look(user) == looks);
         assert!(rt; !settings.is_admin(user));
     }

@@ -56,7 +56,7 @@ fn goes_on(alloc: Global, note: Note<'_>, ms: Option<u64>, wanted: &[u8]) -> Res
 
 #[test]
 fn what_a_client_comes_to(rt: HostRuntime) -> Result<(), Fail> {
-    let rows: [(Note<'_>, Option<u64>, &[u8]); 23] = [
+    let rows: &[(Note<'_>, Option<u64>, &[u8])] = &[
         (Note::LoggedIn, Some(7), b" in"),
         (Note::Closed, Some(3_299), b" out after 3.2 s"),
         (Note::Closed, None, b" out"),
@@ -145,7 +145,7 @@ fn what_a_client_comes_to(rt: HostRuntime) -> Result<(), Fail> {
         (Note::Reconnecting, None, b" reconnects the pool"),
         (Note::ShuttingDown, None, b" shuts the pool down"),
     ];
-    for (note, ms, wanted) in rows {
+    for &(note, ms, wanted) in rows {
         assert!(rt; goes_on(rt.alloc(), note, ms, wanted)?);
     }
     Ok(())
@@ -164,7 +164,7 @@ const SYNTAX: &[u8] = b"E\0\0\0\x2fSERROR\0VERROR\0C42601\0Msyntax error at end\
 // A release before 9.6 has the severity in its own language alone.
 #[test]
 fn errors_by_which_a_session_ends(rt: HostRuntime) -> Result<(), Fail> {
-    let rows: [(&[u8], bool); 7] = [
+    let rows: &[(&[u8], bool)] = &[
         (SERVER_ERROR, true),
         (TERMINATED, true),
         (SYNTAX, false),
@@ -173,7 +173,7 @@ fn errors_by_which_a_session_ends(rt: HostRuntime) -> Result<(), Fail> {
         (b"E\0\0\0\x05\0", false),
         (b"E\0\0", false),
     ];
-    for (message, wanted) in rows {
+    for &(message, wanted) in rows {
         assert!(rt; ends_session(message) == wanted);
     }
     Ok(())
@@ -185,7 +185,7 @@ const SERVER_ERROR: &[u8] =
 
 #[test]
 fn why_no_link_was_started(rt: HostRuntime) -> Result<(), Fail> {
-    let rows: [(Unstarted<'_>, &[u8]); 9] = [
+    let rows: &[(Unstarted<'_>, &[u8])] = &[
         (Unstarted::NotReached, b" could not be reached (P7)"),
         (
             Unstarted::Unanswerable(10),
@@ -217,7 +217,7 @@ fn why_no_link_was_started(rt: HostRuntime) -> Result<(), Fail> {
         ),
         (Unstarted::Refused(b"E\0\0"), b" refused the start:  "),
     ];
-    for (why, wanted) in rows {
+    for &(why, wanted) in rows {
         let mut words = Vec::new(rt.alloc());
         words.extend_from_slice(b" refused after 1.5 s: server 127.0.0.1:5432")?;
         words.extend_from_slice(wanted)?;
@@ -251,14 +251,14 @@ fn unknown_clients(rt: HostRuntime) -> Result<(), Fail> {
 // An address of IPv6 stands between brackets; who comes over a Unix socket has none.
 #[test]
 fn where_clients_come_from(rt: HostRuntime) -> Result<(), Fail> {
-    let rows: [(&str, &[u8]); 2] = [
+    let rows: &[(&str, &[u8])] = &[
         (
             "2001:db8::7",
             b"pgsess: client ann@shop from [2001:db8::7]:40112 in",
         ),
         ("unix", b"pgsess: client ann@shop from unix:40112 in"),
     ];
-    for (host, wanted) in rows {
+    for &(host, wanted) in rows {
         let client = Client {
             visit: visit(host),
             number: None,
@@ -323,7 +323,7 @@ fn what_the_program_tells(rt: HostRuntime) -> Result<(), Fail> {
         left: 3,
         others: 2,
     };
-    let rows: [(Event<'_>, &[u8]); 16] = [
+    let rows: &[(Event<'_>, &[u8])] = &[
         (
             Event::Listening(b"127.0.0.1", 6432),
             b"pgsess: listening 127.0.0.1 6432",
@@ -386,7 +386,7 @@ fn what_the_program_tells(rt: HostRuntime) -> Result<(), Fail> {
             b"pgsess: shut down: 21 decisions, 2 starts; 6 arrived, 5 granted, 4 given back, 1 lost, 3 left, 2 others",
         ),
     ];
-    for (event, wanted) in rows {
+    for &(event, wanted) in rows {
         let mut line = Vec::new(rt.alloc());
         put_event(&mut line, event)?;
         assert!(rt; line.as_slice() == wanted);
@@ -405,7 +405,7 @@ fn what_the_program_tells_of_figures(rt: HostRuntime) -> Result<(), Fail> {
         query_time: 56,
         wait_time: 0,
     };
-    let rows: [(Event<'_>, &[u8]); 4] = [
+    let rows: &[(Event<'_>, &[u8])] = &[
         (
             Event::Stats(rates),
             b"pgsess: stats: 12 transactions/s, 34 queries/s, 567 B/s in, 8900 B/s out; 1234 us a transaction, 56 us a query, 0 us a wait",
@@ -423,7 +423,7 @@ fn what_the_program_tells_of_figures(rt: HostRuntime) -> Result<(), Fail> {
             b"pgsess: not listening for metrics at 127.0.0.1:9127: address in use",
         ),
     ];
-    for (event, wanted) in rows {
+    for &(event, wanted) in rows {
         let mut line = Vec::new(rt.alloc());
         put_event(&mut line, event)?;
         assert!(rt; line.as_slice() == wanted);

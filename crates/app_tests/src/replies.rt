@@ -20,7 +20,7 @@ fn replays_one_client(rt: HostRuntime) -> Result<(), Fail> {
 
 #[test]
 fn first_packets(rt: HostRuntime) -> Result<(), Fail> {
-    let rows: [(&[u8], &[u8]); 4] = [
+    let rows: &[(&[u8], &[u8])] = &[
         (START, WELCOME),
         (b"\0\0\0\x08\x04\xd2\x16\x2f", b"N"),
         (
@@ -29,7 +29,7 @@ fn first_packets(rt: HostRuntime) -> Result<(), Fail> {
         ),
         (b"\0\0\0", b""),
     ];
-    for (input, wanted) in rows {
+    for &(input, wanted) in rows {
         assert!(rt; replies(rt.alloc(), 8_192, None, Unended::Failed, input)?.as_slice() == wanted);
     }
     Ok(())
@@ -52,8 +52,8 @@ fn joined(alloc: Global, first: &[u8], second: &[u8]) -> Result<Vec<u8>, Fail> {
 
 #[test]
 fn nothing_follows_a_refused_start(rt: HostRuntime) -> Result<(), Fail> {
-    let rows: [&[u8]; 4] = [b"", b"Q\0\0\0\x05\0", b"?\0\0\0\x04", b"Q\xff\xff\xff\xff"];
-    for behind in rows {
+    let rows: &[&[u8]] = &[b"", b"Q\0\0\0\x05\0", b"?\0\0\0\x04", b"Q\xff\xff\xff\xff"];
+    for &behind in rows {
         let input = joined(rt.alloc(), BAD_START, behind)?;
         assert!(rt;
             replies(rt.alloc(), 8_192, None, Unended::Failed, input.as_slice())?.as_slice()

@@ -30,7 +30,7 @@ fn accepts(alloc: Global, secret: &[u8], user: &[u8], password: &[u8]) -> Option
 
 #[test]
 fn passwords(rt: HostRuntime) -> Result<(), Fail> {
-    let rows: [(&[u8], &[u8], &[u8], bool); 17] = [
+    let rows: &[(&[u8], &[u8], &[u8], bool)] = &[
         (ABC, b"bc", b"a", true),
         (ABC, b"c", b"ab", true),
         (ABC, b"bc", b"b", false),
@@ -54,7 +54,7 @@ fn passwords(rt: HostRuntime) -> Result<(), Fail> {
         (b"", b"bc", b"", false),
         (b"", b"bc", b"a", false),
     ];
-    for (secret, user, password, accepted) in rows {
+    for &(secret, user, password, accepted) in rows {
         assert!(rt; accepts(rt.alloc(), secret, user, password) == Some(accepted));
     }
     Ok(())

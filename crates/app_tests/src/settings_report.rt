@@ -17,7 +17,7 @@ fn are(lines: &[Text], expected: &[&[u8]]) -> bool {
 const SETTINGS: &[u8] =
     b"\"ann\" \"x=y\"\n[databases]\na = host=x auth_user=app\nb = port=1\nc = host=x PassWord=y\n[pgbouncer]\nuser = root\nlisten_port = 0\x07\nlogfile = l\nlogfile = m\nauth_file = f\nserver_tls_sslmode = prefer\n%include y\nlisten_addr = *\nunix_socket_dir =\nlog_connections = 1\nlog_disconnections = 1\n";
 
-const LINES: [&[u8]; 10] = [
+const LINES: &[&[u8]] = &[
     b"i line 1: C7: neither a header nor a key and its value below one",
     b"i line 3: a = host=x auth_user=app: C3: auth_user is not served in a row, or not at this value",
     b"i line 4: b = port=1: C3: no host; with PgBouncer it is the folder of its Unix sockets: write it, as host=/var/run/postgresql",
@@ -38,7 +38,7 @@ fn every_fault_of_the_settings(rt: HostRuntime) -> Result<(), Fail> {
         assert!(rt; false);
         return Ok(());
     };
-    assert!(rt; are(lines, LINES.as_slice()));
+    assert!(rt; are(lines, LINES));
     assert!(rt; tls.as_bytes() == b"i: no TLS to servers (server_tls_sslmode = prefer)".as_slice());
     Ok(())
 }
@@ -60,14 +60,14 @@ fn every_fault_of_the_users(rt: HostRuntime) -> Result<(), Fail> {
 #[test]
 fn what_the_start_says(rt: HostRuntime) -> Result<(), Fail> {
     let text = b"[pgbouncer]\nauth_file = u\nso_reuseport = 1\nserver_tls_sslmode = disable\n";
-    let files: [(bool, &[u8]); 2] = [
+    let files: &[(bool, &[u8])] = &[
         (true, b"read over: so_reuseport, server_tls_sslmode"),
         (
             false,
             b"read over: auth_file, so_reuseport, server_tls_sslmode",
         ),
     ];
-    for (uses_auth_file, said) in files {
+    for &(uses_auth_file, said) in files {
         let lines = notices(rt.alloc(), uses_auth_file, text)?;
         assert!(rt; are(lines.as_slice(), &[said]));
     }

@@ -4,7 +4,7 @@ use text_lines::{Text, is_ignored, trimmed};
 
 #[test]
 fn trimmed_and_ignored_lines(rt: HostRuntime) -> Result<(), Fail> {
-    let rows: [(&[u8], &[u8], bool); 6] = [
+    let rows: &[(&[u8], &[u8], bool)] = &[
         (b" \t a b\t", b"a b", false),
         (b"\t ", b"", true),
         (b" ; a", b"; a", true),
@@ -12,7 +12,7 @@ fn trimmed_and_ignored_lines(rt: HostRuntime) -> Result<(), Fail> {
         (b"a ;", b"a ;", false),
         (b"\x0ba\r", b"\x0ba\r", false),
     ];
-    for (line, expected, ignored) in rows {
+    for &(line, expected, ignored) in rows {
         assert!(rt; trimmed(line) == expected);
         assert!(rt; is_ignored(trimmed(line)) == ignored);
     }

@@ -13,7 +13,7 @@ fn fault(alloc: Global, text: &[u8]) -> Option<(UserCause, usize)> {
 
 #[test]
 fn faults_and_their_lines(rt: HostRuntime) -> Result<(), Fail> {
-    let rows: [(&[u8], UserCause, usize); 12] = [
+    let rows: &[(&[u8], UserCause, usize)] = &[
         (b"\"x\" \"y\"\n\"a\" \"b", UserCause::BadQuoting, 2),
         (b"\"a\" \"b", UserCause::BadQuoting, 1),
         (b"\"a\"", UserCause::BadQuoting, 1),
@@ -27,7 +27,7 @@ fn faults_and_their_lines(rt: HostRuntime) -> Result<(), Fail> {
         (b"\"a\"\"\" \"x\"\n\"a\"\"\" \"y\"", UserCause::NameTwice, 2),
         (b"\"a\" \"x\"\n\"a\" \"y", UserCause::BadQuoting, 2),
     ];
-    for (text, cause, line) in rows {
+    for &(text, cause, line) in rows {
         assert!(rt; fault(rt.alloc(), text) == Some((cause, line)));
     }
     Ok(())
@@ -54,13 +54,13 @@ fn users_of_a_file(rt: HostRuntime) -> Result<(), Fail> {
     let text = b"# users\r\n\"a\"\"b\" \"c d\" rest\r\n \"e\"\t\"f\"x\n\"Ann\" \"\"\"\"\n";
     let users = read_users(rt.alloc(), text)?;
     assert!(rt; users.len() == 3);
-    let rows: [(&[u8], &[u8], bool); 4] = [
+    let rows: &[(&[u8], &[u8], bool)] = &[
         (b"a\"b", b"c d", true),
         (b"e", b"f", true),
         (b"Ann", b"\"", true),
         (b"ann", b"\"", false),
     ];
-    for (name, password, expected) in rows {
+    for &(name, password, expected) in rows {
         assert!(rt; has_user(&users, name, password) == expected);
     }
     Ok(())
@@ -82,7 +82,7 @@ fn users_show_no_secret(rt: HostRuntime) -> Result<(), Fail> {
 
 #[test]
 fn secrets_show_their_kind_alone(rt: HostRuntime) -> Result<(), Fail> {
-    let rows: [(&[u8], &str); 5] = [
+    let rows: &[(&[u8], &str)] = &[
         (b"hunter2", "Plain(..)"),
         (b"", "Unusable"),
         (b"SCRAM-SHA-256$4096", "Unusable"),
@@ -92,7 +92,7 @@ fn secrets_show_their_kind_alone(rt: HostRuntime) -> Result<(), Fail> {
         ),
         (b"md5900150983cd24fb0d6963f7d28e17f72", "Md5(..)"),
     ];
-    for (text, expected) in rows {
+    for &(text, expected) in rows {
         let secret = Secret::read(rt.alloc(), text)?;
         assert!(rt; shows(rt.alloc(), &secret, expected)?);
     }

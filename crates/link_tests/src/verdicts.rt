@@ -147,13 +147,13 @@ fn a_link_is_unused_or_used(rt: HostRuntime) -> Result<(), Fail> {
 /// Each case has its messages, how many of them ask for a ReadyForQuery, how many came, how many told of no block, and the last status.
 #[test]
 fn what_went_over_a_link_is_counted(rt: HostRuntime) -> Result<(), Fail> {
-    let cases: [(&[&[u8]], u64, u64, u64, Option<u8>); 4] = [
+    let cases: &[(&[&[u8]], u64, u64, u64, Option<u8>)] = &[
         (&[], 0, 0, 0, None),
         (&[SHOW, SHOW, SYNC], 3, 3, 3, Some(b'I')),
         (&[SHOW, BEGIN, SHOW], 3, 3, 1, Some(b'T')),
         (&[REFUSED, SHOW, SYNC], 2, 1, 1, Some(b'I')),
     ];
-    for (messages, asked, answered, ended, status) in cases {
+    for &(messages, asked, answered, ended, status) in cases {
         let wanted = Counts {
             asked,
             answered,
@@ -192,12 +192,12 @@ fn a_skipped_query_is_unanswered(rt: HostRuntime) -> Result<(), Fail> {
 /// What follows an error takes nothing away from what is kept of it.
 #[test]
 fn the_last_error_is_kept(rt: HostRuntime) -> Result<(), Fail> {
-    let cases: [(&[&[u8]], &[u8]); 3] = [
+    let cases: &[(&[&[u8]], &[u8])] = &[
         (&[SHOW], b""),
         (&[REFUSED, SYNC], ERROR),
         (&[REFUSED, SYNC, SHOW], ERROR),
     ];
-    for (messages, wanted) in cases {
+    for &(messages, wanted) in cases {
         assert!(rt; last_note(rt.alloc(), messages)?.message() == wanted);
     }
     Ok(())

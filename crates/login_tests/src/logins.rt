@@ -105,13 +105,13 @@ fn a_start_is_let_in(rt: HostRuntime) -> Result<(), Fail> {
 #[test]
 fn encryption_is_refused_once_each(rt: HostRuntime) -> Result<(), Fail> {
     let alloc = rt.alloc();
-    let rows: [(&[&[u8]], &[&[u8]], End, usize); 4] = [
+    let rows: &[(&[&[u8]], &[&[u8]], End, usize)] = &[
         (&[SSL, ANN], &[b"N", ARRIVES, OK], End::Passed, 0),
         (&[SSL, SSL, ANN], &[b"N", MALFORMED], End::Closed, ANN.len()),
         (&[GSS, SSL, ANN], &[b"N", b"N", ARRIVES, OK], End::Passed, 0),
         (&[SSL, GSS, GSS], &[b"N", b"N", MALFORMED], End::Closed, 0),
     ];
-    for (packets, out, end, left) in rows {
+    for &(packets, out, end, left) in rows {
         assert!(rt; is_login(alloc, SHOP, packets, out, end, left)?);
     }
     Ok(())
@@ -153,13 +153,13 @@ fn the_last_of_equal_names_counts(rt: HostRuntime) -> Result<(), Fail> {
 #[test]
 fn plain_passwords(rt: HostRuntime) -> Result<(), Fail> {
     let alloc = rt.alloc();
-    let rows: [(&[u8], &[u8], &[u8], End, usize); 4] = [
+    let rows: &[(&[u8], &[u8], &[u8], End, usize)] = &[
         (BC, b"p\0\0\0\x06a\0", OK, End::Passed, 0),
         (ANN, b"p\0\0\0\x0bsecret\0Q", OK, End::Passed, 1),
         (BC, b"p\0\0\0\x06b\0", WRONG, End::Closed, 0),
         (ZED, b"p\0\0\0\x06b\0", WRONG, End::Closed, 0),
     ];
-    for (start, password, told, end, left) in rows {
+    for &(start, password, told, end, left) in rows {
         let out: [&[u8]; 3] = [ARRIVES, CLEARTEXT, told];
         assert!(rt; is_login(alloc, SHOP_PLAIN, &[start, password], &out, end, left)?);
     }
@@ -169,7 +169,7 @@ fn plain_passwords(rt: HostRuntime) -> Result<(), Fail> {
 #[test]
 fn salted_passwords(rt: HostRuntime) -> Result<(), Fail> {
     let alloc = rt.alloc();
-    let rows: [(&[u8], &[u8], &[u8], End); 3] = [
+    let rows: &[(&[u8], &[u8], &[u8], End)] = &[
         (
             ANN,
             b"p\0\0\0\x28md59009ce60b9ca97f1e752376843d1309e\0",
@@ -189,7 +189,7 @@ fn salted_passwords(rt: HostRuntime) -> Result<(), Fail> {
             End::Closed,
         ),
     ];
-    for (start, answer, told, end) in rows {
+    for &(start, answer, told, end) in rows {
         let out: [&[u8]; 3] = [ARRIVES, SALTED, told];
         assert!(rt; is_login(alloc, SHOP_MD5, &[start, answer], &out, end, 0)?);
     }
@@ -199,7 +199,7 @@ fn salted_passwords(rt: HostRuntime) -> Result<(), Fail> {
 #[test]
 fn in_the_stead_of_a_password(rt: HostRuntime) -> Result<(), Fail> {
     let alloc = rt.alloc();
-    let rows: [(&[u8], &[&[u8]], usize); 6] = [
+    let rows: &[(&[u8], &[&[u8]], usize)] = &[
         (b"X\0\0\0\x04", &[ARRIVES, CLEARTEXT], 0),
         (b"Q\0\0\0\x05\0", &[ARRIVES, CLEARTEXT, MALFORMED], 0),
         (
@@ -211,7 +211,7 @@ fn in_the_stead_of_a_password(rt: HostRuntime) -> Result<(), Fail> {
         (b"p\0\0\x27\x11", &[ARRIVES, CLEARTEXT, MALFORMED], 0),
         (b"?\0\0\0\x04", &[ARRIVES, CLEARTEXT, MALFORMED], 0),
     ];
-    for (message, out, left) in rows {
+    for &(message, out, left) in rows {
         assert!(rt; is_login(alloc, SHOP_PLAIN, &[ANN, message], out, End::Closed, left)?);
     }
     Ok(())
@@ -219,7 +219,7 @@ fn in_the_stead_of_a_password(rt: HostRuntime) -> Result<(), Fail> {
 
 #[test]
 fn users_databases_and_the_console(rt: HostRuntime) -> Result<(), Fail> {
-    let rows: [(&[u8], &[&[u8]], End); 6] = [
+    let rows: &[(&[u8], &[&[u8]], End)] = &[
         (
             b"\0\0\0\x23\0\x03\0\0user\0ann\0database\0nowhere\0\0",
             &[ARRIVES, NOWHERE],
@@ -247,7 +247,7 @@ fn users_databases_and_the_console(rt: HostRuntime) -> Result<(), Fail> {
             End::Passed,
         ),
     ];
-    for (start, out, end) in rows {
+    for &(start, out, end) in rows {
         assert!(rt; is_login(rt.alloc(), SHOP, &[start], out, end, 0)?);
     }
     Ok(())
@@ -262,7 +262,7 @@ const ROOT: &[u8] = b"\0\0\0\x21\0\x03\0\0user\0root\0database\0shop\0\0";
 // One of `stats_users` enters the console as one of `admin_users` does, by its own password.
 #[test]
 fn who_may_look_enters_the_console(rt: HostRuntime) -> Result<(), Fail> {
-    let rows: [(&[u8], &[u8], &[&[u8]], End); 4] = [
+    let rows: &[(&[u8], &[u8], &[&[u8]], End)] = &[
         (
             BC_AT_CONSOLE,
             b"p\0\0\0\x06a\0",
@@ -288,7 +288,7 @@ fn who_may_look_enters_the_console(rt: HostRuntime) -> Result<(), Fail> {
             End::Closed,
         ),
     ];
-    for (start, password, out, end) in rows {
+    for &(start, password, out, end) in rows {
         assert!(rt; is_login(rt.alloc(), LOOKED_AT, &[start, password], out, end, 0)?);
     }
     Ok(())
@@ -313,14 +313,14 @@ fn arrives_at_console(alloc: Global, start: &[u8]) -> Result<bool, Fail> {
 
 #[test]
 fn who_arrives_at_the_console(rt: HostRuntime) -> Result<(), Fail> {
-    let rows: [(&[u8], bool); 5] = [
+    let rows: &[(&[u8], bool)] = &[
         (ROOT_AT_CONSOLE, true),
         (BC_AT_CONSOLE, true),
         (ANN_AT_CONSOLE, false),
         (ROOT, false),
         (BC, false),
     ];
-    for (start, wanted) in rows {
+    for &(start, wanted) in rows {
         assert!(rt; arrives_at_console(rt.alloc(), start)? == wanted);
     }
     Ok(())
@@ -329,7 +329,7 @@ fn who_arrives_at_the_console(rt: HostRuntime) -> Result<(), Fail> {
 #[test]
 fn faulty_first_packets(rt: HostRuntime) -> Result<(), Fail> {
     let alloc = rt.alloc();
-    let rows: [(&[u8], &[&[u8]]); 6] = [
+    let rows: &[(&[u8], &[&[u8]])] = &[
         (b"\0\0\0\x08\0\x02\0\0", &[VERSION]),
         (b"\0\0\0\x07", &[MALFORMED]),
         (b"\0\0\x27\x11", &[MALFORMED]),
@@ -340,7 +340,7 @@ fn faulty_first_packets(rt: HostRuntime) -> Result<(), Fail> {
             &[PARAMETER],
         ),
     ];
-    for (input, out) in rows {
+    for &(input, out) in rows {
         assert!(rt; is_login(alloc, SHOP, &[input], out, End::Closed, 0)?);
     }
     Ok(())

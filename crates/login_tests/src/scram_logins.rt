@@ -78,7 +78,7 @@ type Row = (&'static [&'static [u8]], &'static [&'static [u8]], End);
 
 #[test]
 fn proofs(rt: HostRuntime) -> Result<(), Fail> {
-    let rows: [Row; 6] = [
+    let rows: &[Row] = &[
         (
             &[ANN, FIRST, ANNS_PROOF],
             &[ARRIVES, OFFER, ANNS_CHALLENGE, PROOF_TO_ANN, OK],
@@ -110,7 +110,7 @@ fn proofs(rt: HostRuntime) -> Result<(), Fail> {
             End::Closed,
         ),
     ];
-    for (packets, out, end) in rows {
+    for &(packets, out, end) in rows {
         assert!(rt; is_login_by(rt.alloc(), BY_SCRAM, packets, out, end, 0, BYTES)?);
     }
     Ok(())
@@ -152,7 +152,7 @@ fn a_verifier(rt: HostRuntime) -> Result<(), Fail> {
 
 #[test]
 fn malformed_first_messages(rt: HostRuntime) -> Result<(), Fail> {
-    let rows: [&[u8]; 7] = [
+    let rows: &[&[u8]] = &[
         // SCRAM-SHA-1
         b"p\0\0\00SCRAM-SHA-1\0\0\0\0\x1cn,,n=,r=rOprNGfwEbeRWgbNEkqO",
         // a bound channel
@@ -168,7 +168,7 @@ fn malformed_first_messages(rt: HostRuntime) -> Result<(), Fail> {
         // a password
         b"p\0\0\0\x0bsecret\0",
     ];
-    for first in rows {
+    for &first in rows {
         assert!(rt;
             is_login(
                 rt.alloc(),
@@ -186,7 +186,7 @@ fn malformed_first_messages(rt: HostRuntime) -> Result<(), Fail> {
 #[test]
 fn malformed_last_messages(rt: HostRuntime) -> Result<(), Fail> {
     let out: [&[u8]; 4] = [ARRIVES, OFFER, ANNS_CHALLENGE, MALFORMED];
-    let rows: [&[u8]; 5] = [
+    let rows: &[&[u8]] = &[
         // one byte of the proof less
         b"p\0\0\0hc=biws,r=rOprNGfwEbeRWgbNEkqOgL3lV3fXX9J4ui3CsSIAOOru,p=Gp/rM5ufkH9V94WbEtgFgy+batYYop5Ba5u+4fv4JQ==",
         // another header than the first message has
@@ -198,7 +198,7 @@ fn malformed_last_messages(rt: HostRuntime) -> Result<(), Fail> {
         // the first message again
         b"p\0\0\02SCRAM-SHA-256\0\0\0\0\x1cn,,n=,r=rOprNGfwEbeRWgbNEkqO",
     ];
-    for last in rows {
+    for &last in rows {
         assert!(rt;
             is_login(
                 rt.alloc(),

@@ -316,7 +316,9 @@ impl MemoryPool {
         ensures { self.new ≡ self.old }
     {
         match self.tell(GiveBack(link)) {
-            BookReply::Close(link) | BookReply::Refuse(_, Some(link)) | BookReply::Stranger(Some(link)) => {
+            BookReply::Close(link)
+            | BookReply::Refuse(_, Some(link))
+            | BookReply::Stranger(Some(link)) => {
                 close_link(link);
             }
             _ => {}

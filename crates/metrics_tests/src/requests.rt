@@ -4,7 +4,7 @@ use std::alloc::{AllocError, Global};
 use std::test::Fail;
 
 /// Requests at an address of this machine alone, and what they ask for.
-const ROWS: [(&[u8], Option<Asked>); 63] = [
+const ROWS: &[(&[u8], Option<Asked>)] = &[
     // hosts that are this machine, or an address
     (
         b"GET /metrics HTTP/1.1\r\nHost: localhost\r\n\r\n",
@@ -239,19 +239,19 @@ const ROWS: [(&[u8], Option<Asked>); 63] = [
 
 #[test]
 fn requests(rt: HostRuntime) {
-    for (request, wanted) in ROWS {
+    for &(request, wanted) in ROWS {
         assert!(rt; read_request(request, true) == wanted, "{request:?}");
     }
 }
 
 #[test]
 fn elsewhere_any_host_is_welcome(rt: HostRuntime) {
-    let rows: [&[u8]; 3] = [
+    let rows: &[&[u8]] = &[
         b"GET /metrics HTTP/1.1\r\nHost: prometheus.example\r\n\r\n",
         b"GET /metrics HTTP/1.1\r\nHost:\r\n\r\n",
         b"GET /metrics HTTP/1.1\r\n\r\n",
     ];
-    for request in rows {
+    for &request in rows {
         assert!(rt;
             read_request(request, false) == Some(Asked::Metrics),
             "{request:?}"
@@ -279,7 +279,7 @@ const FRONT: usize = 45;
 
 #[test]
 fn long_requests(rt: HostRuntime) -> Result<(), Fail> {
-    let rows: [(usize, bool, Option<Asked>); 6] = [
+    let rows: &[(usize, bool, Option<Asked>)] = &[
         // a head of 4,096 bytes, and one of 4,097
         (MAX_HEAD - FRONT - 2, true, Some(Asked::Metrics)),
         (MAX_HEAD - FRONT - 1, true, Some(Asked::Malformed)),
@@ -289,7 +289,7 @@ fn long_requests(rt: HostRuntime) -> Result<(), Fail> {
         (2 * MAX_HEAD, false, Some(Asked::Malformed)),
         (2 * MAX_HEAD, true, Some(Asked::Malformed)),
     ];
-    for (length, is_whole, wanted) in rows {
+    for &(length, is_whole, wanted) in rows {
         let mut request = front(rt.alloc(), 2, length)?;
         if is_whole {
             request.extend_from_slice(b"\r\n")?;

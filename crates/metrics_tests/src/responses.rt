@@ -5,7 +5,7 @@ use std::test::Fail;
 
 #[test]
 fn metrics(rt: HostRuntime) -> Result<(), Fail> {
-    let rows: [(&[u8], &[u8]); 2] = [
+    let rows: &[(&[u8], &[u8])] = &[
         (
             b"a 1\n# EOF\n",
             b"HTTP/1.1 200 OK\r\nContent-Type: application/openmetrics-text; version=1.0.0; charset=utf-8\r\nContent-Length: 10\r\nConnection: close\r\n\r\na 1\n# EOF\n",
@@ -15,7 +15,7 @@ fn metrics(rt: HostRuntime) -> Result<(), Fail> {
             b"HTTP/1.1 200 OK\r\nContent-Type: application/openmetrics-text; version=1.0.0; charset=utf-8\r\nContent-Length: 0\r\nConnection: close\r\n\r\n",
         ),
     ];
-    for (text, wanted) in rows {
+    for &(text, wanted) in rows {
         let response = with_metrics(rt.alloc(), text)?;
         assert!(rt; response.as_slice() == wanted);
     }
@@ -24,7 +24,7 @@ fn metrics(rt: HostRuntime) -> Result<(), Fail> {
 
 #[test]
 fn refusals(rt: HostRuntime) {
-    let rows: [(Asked, &[u8]); 5] = [
+    let rows: &[(Asked, &[u8])] = &[
         (
             Asked::Metrics,
             b"HTTP/1.1 503 Service Unavailable\r\nContent-Length: 0\r\nConnection: close\r\n\r\n",
@@ -46,7 +46,7 @@ fn refusals(rt: HostRuntime) {
             b"HTTP/1.1 421 Misdirected Request\r\nContent-Length: 0\r\nConnection: close\r\n\r\n",
         ),
     ];
-    for (asked, wanted) in rows {
+    for &(asked, wanted) in rows {
         assert!(rt; without_metrics(asked) == wanted);
     }
 }

@@ -64,7 +64,7 @@ fn a_link_is_reset(rt: HostRuntime) -> Result<(), Fail> {
 /// What a first client sends before it goes, what it is answered, and which link the next one of its key has.
 #[test]
 fn a_link_is_kept_only_where_all_is_answered(rt: HostRuntime) -> Result<(), Fail> {
-    let cases: [(&[u8], &[u8], u64); 4] = [
+    let cases: &[(&[u8], &[u8], u64)] = &[
         // an error, and then ReadyForQuery
         (b"Q\0\0\0\x0aSELEC\0", SYNTAX_ERROR_AND_READY, 1),
         // inside a block
@@ -82,7 +82,7 @@ fn a_link_is_kept_only_where_all_is_answered(rt: HostRuntime) -> Result<(), Fail
             2,
         ),
     ];
-    for (sent, answered, link) in cases {
+    for &(sent, answered, link) in cases {
         let first = greeted(rt.alloc(), b"", 1, answered)?;
         let second = greeted(rt.alloc(), b"", 2, FOUND)?;
         let played = one_after_another(rt.alloc(), 7, sent)?;

@@ -32,8 +32,8 @@ fn clients_wait_in_turn(rt: HostRuntime) -> Result<(), Fail> {
 fn a_client_waits_too_long(rt: HostRuntime) -> Result<(), Fail> {
     let mut refused = Vec::from_slice(rt.alloc(), LET_IN)?;
     refused.extend_from_slice(refusal_bytes(Refusal::WaitedTooLong))?;
-    let cases: [(u64, &[u8]); 2] = [(4, LET_IN), (5, refused.as_slice())];
-    for (second, wanted) in cases {
+    let cases: &[(u64, &[u8])] = &[(4, LET_IN), (5, refused.as_slice())];
+    for &(second, wanted) in cases {
         let acts = [
             Act::Come,
             Act::Send(1, START),

@@ -132,7 +132,11 @@ pub(crate) fn heard<E: ServerEnd>(holder: Holder, call: Call, reply: &BookReply<
             ..held
         },
         (Call::Take(_), BookReply::Queued(_)) => holder,
-        (Call::Take(_), BookReply::Lend(link)) => with_lease(held, link.number(), link.started_at()),
+        (Call::Take(_), BookReply::Lend(link)) => with_lease(
+            held,
+            link.number(),
+            link.started_at(),
+        ),
         (
             Call::Take(_),
             BookReply::Start {
@@ -142,7 +146,10 @@ pub(crate) fn heard<E: ServerEnd>(holder: Holder, call: Call, reply: &BookReply<
             },
         ) => with_lease(held, *number, *started_at),
         (Call::Keyed { .. }, BookReply::Done) => at_stage(held, Stage::Keyed),
-        (Call::EndLease(_), BookReply::Reset) => at_stage(released(held, Release::Reset), Stage::Ended),
+        (Call::EndLease(_), BookReply::Reset) => at_stage(
+            released(held, Release::Reset),
+            Stage::Ended,
+        ),
         (Call::EndLease(_), BookReply::Dispose) => released(held, Release::Dispose),
         (Call::EndLease(_), BookReply::Refuse(..)) => released(held, Release::Last),
         (Call::EndLease(_), BookReply::Stranger(_)) => released(held, Release::Stranger),

@@ -7,7 +7,7 @@ use std::test::Fail;
 
 #[test]
 fn first_messages(rt: HostRuntime) -> Result<(), Fail> {
-    let refused: [&[u8]; 13] = [
+    let refused: &[&[u8]] = &[
         b"",
         b"n,",
         // to bind the channel; to be somebody else; what must be understood
@@ -24,7 +24,7 @@ fn first_messages(rt: HostRuntime) -> Result<(), Fail> {
         b"n,,n=,r=ab\x7f",
         b"n,,n=,r=\xc3\xa4",
     ];
-    for text in refused {
+    for &text in refused {
         assert!(rt; First::read(text).is_none());
     }
     assert!(rt; First::read(b"n,,n=,r=ab").is_some());
@@ -55,7 +55,7 @@ fn is_challenge(alloc: Global, text: &[u8]) -> Result<bool, AllocError> {
 
 #[test]
 fn challenges(rt: HostRuntime) -> Result<(), Fail> {
-    let refused: [&[u8]; 18] = [
+    let refused: &[&[u8]] = &[
         // the nonce isn't continued, or nothing is added
         b"r=aXc,s=AA==,i=1",
         b"r=xab,s=AA==,i=1",
@@ -79,14 +79,14 @@ fn challenges(rt: HostRuntime) -> Result<(), Fail> {
         b"r=abc,s=AA==,i=1,x=1",
         b"r=abc,s=AA==",
     ];
-    for text in refused {
+    for &text in refused {
         assert!(rt; !is_challenge(rt.alloc(), text)?);
     }
-    let read: [&[u8]; 2] = [
+    let read: &[&[u8]] = &[
         b"r=abc,s=AA==,i=1",
         b"r=abc,s=AAAAAAAAAAAAAAAAAAAAAAAAAAAAAAAAAAAAAAAAAAAAAAAAAAAAAAAAAAAAAAAAAAAAAAAAAAAAAAAAAAAAAA==,i=1000000",
     ];
-    for text in read {
+    for &text in read {
         assert!(rt; is_challenge(rt.alloc(), text)?);
     }
     Ok(())
@@ -99,7 +99,7 @@ fn is_last(alloc: Global, text: &[u8]) -> Result<bool, AllocError> {
 
 #[test]
 fn last_messages(rt: HostRuntime) -> Result<(), Fail> {
-    let refused: [&[u8]; 12] = [
+    let refused: &[&[u8]] = &[
         // the channel binding of another header; another nonce, a longer one
         b"c=eSws,r=abc,p=AAAAAAAAAAAAAAAAAAAAAAAAAAAAAAAAAAAAAAAAAAA=",
         b"c=biw=,r=abc,p=AAAAAAAAAAAAAAAAAAAAAAAAAAAAAAAAAAAAAAAAAAA=",
@@ -116,14 +116,14 @@ fn last_messages(rt: HostRuntime) -> Result<(), Fail> {
         b"c=biws,r=abc,p=AAAAAAAAAAAAAAAAAAAAAAAAAAAAAAAAAAAAAAAAAAA=,x=1",
         b",p=AAAAAAAAAAAAAAAAAAAAAAAAAAAAAAAAAAAAAAAAAAA=",
     ];
-    for text in refused {
+    for &text in refused {
         assert!(rt; !is_last(rt.alloc(), text)?);
     }
-    let read: [&[u8]; 2] = [
+    let read: &[&[u8]] = &[
         b"c=biws,r=abc,p=AAAAAAAAAAAAAAAAAAAAAAAAAAAAAAAAAAAAAAAAAAA=",
         b"c=biws,r=abc,x=1,p=AAAAAAAAAAAAAAAAAAAAAAAAAAAAAAAAAAAAAAAAAAA=",
     ];
-    for text in read {
+    for &text in read {
         assert!(rt; is_last(rt.alloc(), text)?);
     }
     Ok(())
@@ -135,7 +135,7 @@ fn is_verifier(alloc: Global, text: &[u8]) -> Result<bool, AllocError> {
 
 #[test]
 fn verifiers(rt: HostRuntime) -> Result<(), Fail> {
-    let refused: [&[u8]; 16] = [
+    let refused: &[&[u8]] = &[
         // another scheme
         b"SCRAM-SHA-1$4096:AA==$AAAAAAAAAAAAAAAAAAAAAAAAAAAAAAAAAAAAAAAAAAA=:AAAAAAAAAAAAAAAAAAAAAAAAAAAAAAAAAAAAAAAAAAA=",
         b"SCRAM-SHA-256-PLUS$4096:AA==$AAAAAAAAAAAAAAAAAAAAAAAAAAAAAAAAAAAAAAAAAAA=:AAAAAAAAAAAAAAAAAAAAAAAAAAAAAAAAAAAAAAAAAAA=",
@@ -158,14 +158,14 @@ fn verifiers(rt: HostRuntime) -> Result<(), Fail> {
         b"SCRAM-SHA-256$4096:AA==$AAAAAAAAAAAAAAAAAAAAAAAAAAAAAAAAAAAAAAAAAAA=:AAAAAAAAAAAAAAAAAAAAAAAAAAAAAAAAAAAAAAAAAAA=:",
         b"",
     ];
-    for text in refused {
+    for &text in refused {
         assert!(rt; !is_verifier(rt.alloc(), text)?);
     }
-    let read: [&[u8]; 2] = [
+    let read: &[&[u8]] = &[
         b"SCRAM-SHA-256$1:AA==$AAAAAAAAAAAAAAAAAAAAAAAAAAAAAAAAAAAAAAAAAAA=:AAAAAAAAAAAAAAAAAAAAAAAAAAAAAAAAAAAAAAAAAAA=",
         b"SCRAM-SHA-256$2147483647:AAAAAAAAAAAAAAAAAAAAAAAAAAAAAAAAAAAAAAAAAAAAAAAAAAAAAAAAAAAAAAAAAAAAAAAAAAAAAAAAAAAAAA==$AAAAAAAAAAAAAAAAAAAAAAAAAAAAAAAAAAAAAAAAAAA=:AAAAAAAAAAAAAAAAAAAAAAAAAAAAAAAAAAAAAAAAAAA=",
     ];
-    for text in read {
+    for &text in read {
         assert!(rt; is_verifier(rt.alloc(), text)?);
     }
     Ok(())
@@ -173,7 +173,7 @@ fn verifiers(rt: HostRuntime) -> Result<(), Fail> {
 
 #[test]
 fn initial_responses(rt: HostRuntime) {
-    let refused: [&[u8]; 8] = [
+    let refused: &[&[u8]] = &[
         b"SCRAM-SHA-256-PLUS\0\0\0\0\x0an,,n=,r=ab",
         b"SCRAM-SHA-1\0\0\0\0\x0an,,n=,r=ab",
         // a length that is one less, one more; no message; no length
@@ -184,7 +184,7 @@ fn initial_responses(rt: HostRuntime) {
         b"SCRAM-SHA-256\0",
         b"",
     ];
-    for body in refused {
+    for &body in refused {
         assert!(rt; initial_response(body).is_none());
     }
     assert!(rt; initial_response(b"SCRAM-SHA-256\0\0\0\0\x0an,,n=,r=ab") == Some(b"n,,n=,r=ab"));

@@ -14,7 +14,7 @@ fn is_spelled(digest: [u8; 32], digits: &[u8]) -> bool {
 fn hmac_of_messages(rt: HostRuntime) -> Result<(), Fail> {
     let counted: [u8; 25] =
         *b"\x01\x02\x03\x04\x05\x06\x07\x08\x09\x0a\x0b\x0c\x0d\x0e\x0f\x10\x11\x12\x13\x14\x15\x16\x17\x18\x19";
-    let rows: [(&[u8], &[u8], &[u8]); 7] = [
+    let rows: &[(&[u8], &[u8], &[u8])] = &[
         (
             &[0x0b; 20],
             b"Hi There",
@@ -52,7 +52,7 @@ fn hmac_of_messages(rt: HostRuntime) -> Result<(), Fail> {
             b"9b09ffa71b942fcb27635fbcd5b0e944bfdc63644f0713938a7f51535c3a35e2",
         ),
     ];
-    for (key, message, digits) in rows {
+    for &(key, message, digits) in rows {
         assert!(rt; is_spelled(hmac(key, message), digits));
     }
     Ok(())

@@ -25,7 +25,7 @@ const ASCII: &[u8] =
 #[test]
 fn verifiers_of_passwords(rt: HostRuntime) -> Result<(), Fail> {
     // letters that are normalized; spaces of other scripts; written from the right; of mixed directions, so as it is
-    let rows: [(&[u8], &[u8]); 5] = [
+    let rows: &[(&[u8], &[u8])] = &[
         (ASCII, b"pencil"),
         (
             b"SCRAM-SHA-256$4096:jS6zZsxYi7ZmkYViB4xVnw==$Y8bJ38FEMEzj8L7Dg++DMqNaD2Jkvj0rATkcn17vewo=:xs5ZAEtbTJgQ+VVnq5bIVhU0b8LnFyJ7F1qigfyo8OA=",
@@ -44,7 +44,7 @@ fn verifiers_of_passwords(rt: HostRuntime) -> Result<(), Fail> {
             "\u{627}1".as_bytes(),
         ),
     ];
-    for (text, password) in rows {
+    for &(text, password) in rows {
         assert!(rt; is_of(rt.alloc(), text, password)?);
     }
     assert!(rt; !is_of(rt.alloc(), ASCII, b"Pencil")?);

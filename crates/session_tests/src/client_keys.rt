@@ -44,7 +44,7 @@ fn of_no_row(rt: HostRuntime) -> Result<(), Fail> {
 // `*` serves what no other row names, on a server's database of the same name or of its own dbname (PgBouncer manual, "Section [databases]").
 #[test]
 fn of_the_row_of_a_star(rt: HostRuntime) -> Result<(), Fail> {
-    let rows: [(&[u8], &[u8]); 2] = [
+    let rows: &[(&[u8], &[u8])] = &[
         (
             b"[databases]\n* = host=db port=6000\nshop = host=127.0.0.1\n",
             b"news",
@@ -54,7 +54,7 @@ fn of_the_row_of_a_star(rt: HostRuntime) -> Result<(), Fail> {
             b"press",
         ),
     ];
-    for (text, dbname) in rows {
+    for &(text, dbname) in rows {
         let key = key(rt.alloc(), text, b"user\0ann\0database\0news\0\0")??;
         assert!(rt; is_of(&key, b"news", dbname, b"ann"));
         assert!(rt; is_at(&key, Host::new(b"db"), 6000));
@@ -80,7 +80,7 @@ fn parameters_by_name(rt: HostRuntime) -> Result<(), Fail> {
 
 #[test]
 fn faults(rt: HostRuntime) -> Result<(), Fail> {
-    let rows: [(&[u8], StartKeyError); 9] = [
+    let rows: &[(&[u8], StartKeyError)] = &[
         (b"\0", StartKeyError::NoUser),
         (b"database\0shop\0\0", StartKeyError::NoUser),
         (b"user\0ann\0user\0\0options\0x\0\0", StartKeyError::NoUser),
@@ -106,7 +106,7 @@ fn faults(rt: HostRuntime) -> Result<(), Fail> {
             StartKeyError::UnsupportedParameter,
         ),
     ];
-    for (body, wanted) in rows {
+    for &(body, wanted) in rows {
         assert!(rt; fault(rt.alloc(), SETTINGS, body)? == Some(wanted));
     }
     Ok(())

@@ -44,8 +44,8 @@ fn where_the_server_is(rt: HostRuntime) -> Result<(), Fail> {
 
 #[test]
 fn without_a_user(rt: HostRuntime) -> Result<(), Fail> {
-    let bodies: [&[u8]; 3] = [b"\0", b"database\0shop\0\0", b"user\0ann\0user\0\0\0"];
-    for body in bodies {
+    let bodies: &[&[u8]] = &[b"\0", b"database\0shop\0\0", b"user\0ann\0user\0\0\0"];
+    for &body in bodies {
         let fault = key(rt.alloc(), body)?.err();
         assert!(rt; fault == Some(Stop::Refused(Cause::MalformedMessage)));
     }
@@ -67,14 +67,14 @@ fn keys_that_are_equal(rt: HostRuntime) -> Result<(), Fail> {
 #[test]
 fn keys_that_differ(rt: HostRuntime) -> Result<(), Fail> {
     let ann = key(rt.alloc(), b"user\0ann\0database\0shop\0timezone\0UTC\0\0")??;
-    let bodies: [&[u8]; 5] = [
+    let bodies: &[&[u8]] = &[
         b"user\0bob\0database\0shop\0timezone\0UTC\0\0",
         b"user\0ann\0database\0news\0timezone\0UTC\0\0",
         b"user\0ann\0database\0shop\0timezone\0GMT\0\0",
         b"user\0ann\0database\0shop\0\0",
         b"user\0ann\0database\0shop\0timezone\0UTC\0options\0a\0\0",
     ];
-    for body in bodies {
+    for &body in bodies {
         let other = key(rt.alloc(), body)??;
         assert!(rt; ann != other);
     }
