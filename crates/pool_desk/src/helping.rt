@@ -49,8 +49,8 @@ impl<S: Outside, K: Ledgers> Core<S, K> {
             | Event::EndLease { .. }
             | Event::HungUp { .. }
             | Event::Change(Change::Reconnect) => Helps::Nobody,
-            Event::Take { client } | Event::Leave { client } => { self.helped_behind(*client) }
-            Event::Lost { link } | Event::StartFailed { link } => { self.helped_by_link(*link) }
+            Event::Take { client } | Event::Leave { client } => self.helped_behind(*client),
+            Event::Lost { link } | Event::StartFailed { link } => self.helped_by_link(*link),
             Event::Change(Change::Shutdown) => Helps::All,
             Event::Tick { .. } | Event::Change(_) => Helps::FirstOfEach,
         }
