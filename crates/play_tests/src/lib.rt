@@ -1,4 +1,4 @@
-//! Tests of several clients over ends in memory, on one thread (`play`). Public: `files`, which `pool_tests` and `serving_parts` have
+//! Tests of several clients over ends in memory, on one thread (`play`). Public: `files`, which the crates of tests of workers have
 //! their settings, users and catalogue from, and `play_parts`, for StartupMessages of `serving_parts`.
 #![tactic(auto)]
 

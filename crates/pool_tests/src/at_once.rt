@@ -6,7 +6,6 @@ ghost use Rattle.desk_tallies.specs.Shares.{names_of, of_each, parts_of};
 ghost use Rattle.memory_dial.specs.Homes.{IsEverywhere};
 
 use crate::noted_ends::{HoldingGate, NotedClient, Notes};
-use crate::worker_parts::{CUT, TestRuntime, WELCOME, limits, login, serve_by, word};
 use desk_tallies::ledgers::Ledgers;
 use desk_tallies::passes::Pass;
 use desk_tallies::tallies::Blanks;
@@ -24,6 +23,7 @@ use std::sync::atomic::AtomicBool;
 use std::sync::{Arc, Wait};
 use std::test::Fail;
 use std::thread::join;
+use worker_parts::{CUT, TestRuntime, WELCOME, limits, login, serve_by, word};
 
 /// What each client sends: Ann's StartupMessage for the database shop, and `SHOW application_name`.
 const INPUT: &[u8] =

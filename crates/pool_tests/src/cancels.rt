@@ -8,7 +8,6 @@ ghost use Rattle.memory_dial.specs.Homes.{IsEverywhere};
 use crate::held_client::HeldClient;
 use crate::noted_ends::{HoldingGate, Notes};
 use crate::turns::wanted;
-use crate::worker_parts::{CUT, TestRuntime, is_free, limits, login_as, serve_in};
 use desk_tallies::ledgers::Ledgers;
 use desk_tallies::passes::{Pass, Totals};
 use desk_tallies::tallies::Blanks;
@@ -30,6 +29,7 @@ use std::sync::atomic::Ordering;
 use std::sync::{Arc, Wait};
 use std::test::Fail;
 use std::thread::join;
+use worker_parts::{CUT, TestRuntime, is_free, limits, login_as, serve_in};
 
 /// The Query `SHOW TimeZone`.
 const QUERY: &[u8] = b"Q\0\0\0\x12SHOW TimeZone\0";

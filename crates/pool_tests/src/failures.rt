@@ -8,7 +8,6 @@ ghost use Rattle.memory_dial.specs.Homes.{IsEverywhere};
 
 use crate::failing_ends::{FailingDial, OwedClient};
 use crate::turns::{FIRST, FIRST_ANSWERS, SECOND, SECOND_ANSWERS, wanted};
-use crate::worker_parts::{limits, login, serve_by, word};
 use desk_tallies::ledgers::Ledgers;
 use desk_tallies::passes::Pass;
 use desk_tallies::tallies::Blanks;
@@ -29,6 +28,7 @@ use std::rt::Clock;
 use std::sync::atomic::{AtomicBool, Ordering};
 use std::sync::{Arc, Wait};
 use std::test::Fail;
+use worker_parts::{limits, login, serve_by, word};
 
 /// As many bytes as a call of an end moves at most.
 const CUT: usize = 16;

@@ -3,12 +3,12 @@ ghost use Rattle.std.specs.Prelude.{◌≡◌, [], IfOk, true};
 ghost use Rattle.server_end.specs.Moves.{ClientReads, ClientWrites, IsWithin, moved};
 
 use crate::noted_ends::Notes;
-use crate::worker_parts::{CUT, WELCOME};
 use memory_ends::memory_client::MemoryClient;
 use play_tests::files::START;
 use server_end::{ClientEnd, Moved};
 use std::alloc::{AllocError, Global};
 use std::sync::atomic::Ordering;
+use worker_parts::{CUT, WELCOME};
 
 /// How far it is.
 #[derive(Clone, Copy, Drop)]

@@ -1,5 +1,5 @@
 //! Tests of workers that serve clients over one desk at the same time, over ends in memory (`pool_serve` over `pool_desk`, by
-//! `memory_dial`): two at once, one after the other, cancels, and ends that fail. Public: `worker_parts`, for `serving_parts`.
+//! `memory_dial`): two at once, one after the other, cancels, and ends that fail.
 #![tactic(auto)]
 
 #[cfg(test)]
@@ -16,4 +16,3 @@ mod held_client;
 mod noted_ends;
 #[cfg(test)]
 mod turns;
-pub mod worker_parts;

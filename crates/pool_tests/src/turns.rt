@@ -5,7 +5,6 @@ ghost use Rattle.desk_tallies.specs.declared.passes.TheConstants.{ALL_PARTS};
 ghost use Rattle.desk_tallies.specs.Shares.{names_of, of_each, parts_of};
 ghost use Rattle.memory_dial.specs.Homes.{IsEverywhere};
 
-use crate::worker_parts::{CUT, limits, login, serve_in, word};
 use desk_tallies::ledgers::Ledgers;
 use desk_tallies::passes::Totals;
 use desk_tallies::tallies::Blanks;
@@ -22,6 +21,7 @@ use std::marker::Brand;
 use std::rt::Clock;
 use std::sync::{Arc, Wait};
 use std::test::Fail;
+use worker_parts::{CUT, limits, login, serve_in, word};
 
 /// Ann's StartupMessage for the database shop, `SET DateStyle TO 'SQL, DMY'`, `CREATE TEMP TABLE t (a text)`, Parse of `s`, Sync.
 pub(crate) const FIRST: &[u8] =

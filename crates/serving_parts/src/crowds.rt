@@ -15,11 +15,11 @@ use desk_tallies::tallies::Blanks;
 use link_desk::desk::LinkDesk;
 use play_tests::files::catalogue;
 use pool_desk::desk::Desk;
-use pool_tests::worker_parts::{CUT, TestRuntime, limits, login_by, serve_from};
 use server_end::gate::OpenGate;
 use std::alloc::{AllocError, Global};
 use std::marker::Brand;
 use std::test::Fail;
+use worker_parts::{CUT, TestRuntime, limits, login_by, serve_from};
 
 /// So many clients are there; the next comes from this host, and says and is told this.
 #[derive(Clone, Copy, Drop)]

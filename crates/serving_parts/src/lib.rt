@@ -3,7 +3,7 @@
 //! rows.
 //!
 //! Public: rows and their parts, with `first_departure`, which tells where workers depart from them, and `Crowd` with `is_next_told`;
-//! those two crates alone call them. It tests nothing itself: workers (`pool_serve`) are run by what `pool_tests` shares.
+//! those two crates alone call them. It tests nothing itself: workers (`pool_serve`) are run by `worker_parts`.
 #![tactic(auto)]
 
 mod crowds;

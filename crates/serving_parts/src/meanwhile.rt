@@ -9,13 +9,13 @@ use link_desk::desk::LinkDesk;
 use message_view::KeyView;
 use pool_desk::answers::Changed;
 use pool_desk::desk::Desk;
-use pool_tests::worker_parts::{TestRuntime, key, limits};
 use std::alloc::{AllocError, Global};
 use std::rt::Clock;
 use std::sync::Wait;
 use std::sync::atomic::{AtomicBool, Ordering};
 use std::thread::sleep;
 use std::time::Duration;
+use worker_parts::{TestRuntime, key, limits};
 
 /// The desk of the tests.
 pub(crate) type TestDesk<R, K> = Desk<R, Servers, K>;

@@ -6,7 +6,7 @@ use crate::servers::{Behind, START_ERROR};
 use desk_tallies::passes::Totals;
 use message_view::{Refusal, refusal_bytes};
 use play_tests::files::SHOP;
-use pool_tests::worker_parts::WELCOME;
+use worker_parts::WELCOME;
 
 /// The settings that a client logs in under.
 #[derive(Clone, Copy, Drop)]

@@ -9,7 +9,6 @@ use log_lines::notes::{Client, Loss, Note, Unstarted};
 use memory_ends::memory_server::{MemoryServer, ServerAuth};
 use pool_desk::answers::Strike;
 use pool_desk::outside::Outside;
-use pool_tests::worker_parts::{CUT, WELCOME, word};
 use server_end::transcript::Transcript;
 use server_end::{Moved, ServerEnd};
 use session_catalogue::Catalogue;
@@ -17,6 +16,7 @@ use start_keys::StartKey;
 use std::alloc::{AllocError, Global};
 use std::sync::Arc;
 use std::sync::atomic::{AtomicU64, Ordering};
+use worker_parts::{CUT, WELCOME, word};
 
 /// What stands behind all addresses.
 #[derive(Clone, Copy, Drop)]

@@ -17,13 +17,13 @@ use link_desk::calls::Call;
 use link_desk::desk::LinkDesk;
 use play_tests::files::catalogue;
 use pool_desk::desk::Desk;
-use pool_tests::worker_parts::{CUT, TestRuntime, limits, login_by, serve_by};
 use server_end::gate::TurnCount;
 use std::alloc::{AllocError, Global};
 use std::marker::Brand;
 use std::sync::atomic::Ordering;
 use std::test::Fail;
 use std::thread::join;
+use worker_parts::{CUT, TestRuntime, limits, login_by, serve_by};
 
 /// Where workers depart from a row.
 #[derive(Clone, Copy, Drop)]

@@ -1,10 +1,14 @@
-//! Logins, limits and keys of the workers, and how they serve.
+//! Logins, limits and keys of workers that tests serve with, and how they serve.
+//!
+//! Public, all of it: for `pool_tests` and `serving_parts`. It tests nothing itself.
+#![tactic(auto)]
+
 ghost use Rattle.std.specs.Prelude.{◌≡◌, [], IfOk, false, true};
 ghost use Rattle.std.specs.Arc.{arc_value};
 ghost use Rattle.ini_config.specs.Bounds.{AreWithinBounds};
 ghost use Rattle.login_core.specs.Dialogue.{AtFirst};
 ghost use Rattle.login_core.specs.Logins.{AwaitsPacket};
-ghost use Rattle.pool_tests.specs.Words.{key_word};
+ghost use Rattle.worker_parts.specs.Words.{key_word};
 
 use arrayvec::ArrayString;
 use book_model::limits::{Limits, MAX_CLIENTS};
