@@ -31,6 +31,12 @@ TIMED = re.compile(r"\d{4}-\d\d-\d\d \d\d:\d\d:\d\d \S+ \[\d+\] (pgsess|pgsess-r
 COREUTILS = "cat cut dd head md5sum od rm sleep timeout tr".split()
 
 
+def as_by_hand():
+    """What is begun in the background or by nohup ignores these signals, and a shell can't trap what was ignored as it began."""
+    for number in (signal.SIGHUP, signal.SIGINT, signal.SIGQUIT):
+        signal.signal(number, signal.SIG_DFL)
+
+
 class Run:
     """pgsess-run over the stub, its files in the place. `before` stands before its words."""
 
@@ -42,7 +48,7 @@ class Run:
         self.users = place.write(f"{name}.txt", f'; "root" "no"\n"ann" "secret"\n  "root"\t"{secret}" "more"\n')
         environment = {**os.environ, "PGSESS": str(program)}
         self.process = place.start(*before, RUN, self.ini, self.users, self.log, self.pid_file, env=environment,
-                                   stdout=subprocess.DEVNULL, stderr=subprocess.DEVNULL)
+                                   stdout=subprocess.DEVNULL, stderr=subprocess.DEVNULL, preexec_fn=as_by_hand)
 
     def listens(self):
         return until(lambda: is_open(self.port), 20) and until(self.pid_file.exists, 5)
