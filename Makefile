@@ -25,11 +25,11 @@ time; else all is proved anew. RT_JOBS=N says how many are proved side by side, 
   make demo       shows the pool before a PostgreSQL, by a program that is built and NOT proved      2 to 5 minutes
   make quick      the layout, and every test before any proof; CRATES="base_tests .." some           5 to 15 minutes
   make run        shows it before a stand-in server, by the proved program; KEEP=1 leaves it up      proves first
-  make build      proves and builds build/pgsess                                                     three hours of processor time, once
+  make build      proves and builds build/pgsess                                                     an hour and a half of processor time, once
   make install    that, and puts it in PREFIX, /usr/local, with its pages; DESTDIR as usual          proves first
   make deb        that, and makes a Debian package in build/                                         proves first
   make dist       a release in build/dist: the package, a tar, their checksums                       proves first
-  make test       the gate: every proof, edits that must be refused, every test                      six hours of processor time
+  make test       the gate: every proof, edits that must be refused, every test                      three hours of processor time
   make wrong      the wrong versions that the gate leaves out; CRATES="mini_sql .." some             hours for all, minutes for a crate
   make recipes    the recipes that install HAProxy and stunnel; PROGRAM=build/pgsess                 some 2 minutes; proves first
   make bench      measurements beside PgBouncer, which it installs                                   proves first
