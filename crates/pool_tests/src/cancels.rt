@@ -50,16 +50,27 @@ const RIGHT: &[u8] = b"\0\0\0\x10\x04\xd2\x16\x2e\0\0\0\x01\0\0\0\x02";
 
 const WRONG: &[u8] = b"\0\0\0\x10\x04\xd2\x16\x2e\0\0\0\x01\0\0\0\x03";
 
-/// A pool of one link. A client may come and go; the next one is welcomed, and asks once the cancel was asked for, if it is; then a
-/// third asks. What the second is answered, the number of the link that is idle at the end, and how many links were started and lent
+/// Who comes while a client has its link.
+#[derive(Clone, Copy, Drop)]
+enum Meanwhile {
+    Nobody,
+    /// Somebody who asks for a cancel, by this CancelRequest.
+    Cancel(&'static [u8]),
+    /// Another client, of this key word, which asks and goes.
+    Client(KeyWord),
+}
+
+/// A pool of so many links. A client may come and go; the next one is welcomed, and asks once whoever comes meanwhile was served; then a
+/// third asks. What the second is answered, the numbers of the links that are idle at the end, and how many links were started and lent
 /// again.
 #[derive(Clone, Copy, Drop)]
 struct Row {
+    pool: u32,
     first: Option<KeyWord>,
     second: KeyWord,
-    cancel: Option<&'static [u8]>,
+    meanwhile: Meanwhile,
     answer: &'static [u8],
-    idle: u64,
+    idle: &'static [u64],
     starts: u64,
     reuses: u64,
     totals: Totals,
@@ -114,15 +125,17 @@ fn is_served<N: Naming, K: Ledgers, R: Wait + Clock + Drop>(
     Ok((pass, client.given() == wanted.as_slice()))
 }
 
-/// Somebody asks for a cancel, if it is to be: the pass, and whether it was given no byte, and doesn't hold the pass.
+/// Whoever comes is served: the pass, and whether who asks for a cancel was given no byte, and doesn't hold the pass.
 fn asks<N: Naming, K: Ledgers, R: Wait + Clock + Drop>(
     alloc: Global,
     desk: &Desk<R, StrikableDial<R, N>, K>,
     pass: Pass<K>,
-    cancel: Option<&'static [u8]>,
+    meanwhile: Meanwhile,
 ) -> Result<(Pass<K>, bool), AllocError> {
-    let Some(cancel) = cancel else {
-        return Ok((pass, true));
+    let cancel = match meanwhile {
+        Meanwhile::Nobody => return Ok((pass, true)),
+        Meanwhile::Cancel(cancel) => cancel,
+        Meanwhile::Client(own) => return is_served(alloc, desk, pass, own),
     };
     let own = word(9, 9);
     let client = MemoryClient::new(alloc, cancel, CUT)?;
@@ -151,16 +164,16 @@ fn asks_in_time<N: Naming, K: Ledgers, R: Wait + Clock + Drop>(
     alloc: Global,
     desk: &Desk<R, StrikableDial<R, N>, K>,
     pass: Pass<K>,
-    cancel: Option<&'static [u8]>,
+    meanwhile: Meanwhile,
     notes: &Notes,
 ) -> Result<(Pass<K>, bool), AllocError> {
     notes.wait_for_welcome(rt);
-    let asked = asks(alloc, desk, pass, cancel);
+    let asked = asks(alloc, desk, pass, meanwhile);
     notes.answered.store(true, Ordering::SeqCst);
     asked
 }
 
-/// The second client is welcomed, and asks once it is noted that somebody asked for a cancel: the pass, and whether it was given what
+/// The second client is welcomed, and asks once it is noted that somebody was served: the pass, and whether it was given what
 /// it is to be given.
 fn asks_later<T: Gate<MemoryServer> + Drop, N: Naming, K: Ledgers, R: Wait + Clock + Drop>(
     alloc: Global,
@@ -181,7 +194,7 @@ fn asks_later<T: Gate<MemoryServer> + Drop, N: Naming, K: Ledgers, R: Wait + Clo
     Ok((pass, client.given() == wanted.as_slice()))
 }
 
-/// The second client, and somebody who asks for a cancel meanwhile: both passes, and whether each was given what it is to be given.
+/// The second client, and whoever comes meanwhile: both passes, and whether each was given what it is to be given.
 fn is_cancelled<N: Naming + Send + Sync, K: Ledgers + Send + Sync, R: TestRuntime + Drop>(
     rt: R,
     alloc: Global,
@@ -197,14 +210,14 @@ fn is_cancelled<N: Naming + Send + Sync, K: Ledgers + Send + Sync, R: TestRuntim
         turns: TurnCount::new(),
     };
     let shared = &notes;
-    let cancel = row.cancel;
+    let meanwhile = row.meanwhile;
     let (answered, asked) = join(
         &rt,
         || -> Result<(Pass<K>, bool), AllocError> {
             asks_later(alloc, desk, own, row, shared, gate)
         },
         || -> Result<(Pass<K>, bool), AllocError> {
-            asks_in_time(&rt, alloc, desk, other, cancel, shared)
+            asks_in_time(&rt, alloc, desk, other, meanwhile, shared)
         },
     );
     let (own, is_answered) = answered?;
@@ -250,7 +263,7 @@ fn departure_from<N: Naming + Send + Sync, K: Ledgers + Send + Sync, R: TestRunt
     requires all { parts_of blanks ≡ of_each ALL_PARTS }
 {
     let dialer = StrikableDial::<R, N>::new(rt, alloc, catalogue, CUT);
-    let limits = limits(alloc, 100, 1)?;
+    let limits = limits(alloc, 100, row.pool)?;
     let desk = Desk::<R, StrikableDial<R, N>, K>::new(rt, alloc, dialer, limits, blanks)?;
     let own = desk.pass().ok_or("no pass")?;
     let other = desk.pass().ok_or("no pass")?;
@@ -270,7 +283,7 @@ fn departure_from<N: Naming + Send + Sync, K: Ledgers + Send + Sync, R: TestRunt
     Ok(None)
 }
 
-/// Whether the one link that is idle has the row's number, and as many were started and lent again.
+/// Whether the links that are idle have the row's numbers, and as many were started and lent again.
 fn has_links<N: Naming, K: Ledgers, R: Wait + Clock + Drop>(
     desk: &Desk<R, StrikableDial<R, N>, K>,
     alloc: Global,
@@ -278,11 +291,11 @@ fn has_links<N: Naming, K: Ledgers, R: Wait + Clock + Drop>(
     row: &Row,
 ) -> Result<bool, AllocError> {
     let view = desk.view(alloc, pass)?;
-    let is_idle = match view.idle.as_slice() {
-        [link] => link.number == row.idle,
-        _ => false,
-    };
-    Ok(is_idle && view.lent.is_empty() && (view.starts, view.reuses) == (row.starts, row.reuses))
+    let mut are_idle = view.idle.len() == row.idle.len();
+    for link in view.idle.iter() {
+        are_idle &= row.idle.contains(&link.number);
+    }
+    Ok(are_idle && view.lent.is_empty() && (view.starts, view.reuses) == (row.starts, row.reuses))
 }
 
 /// The same, and whether they depart nowhere.
@@ -295,11 +308,12 @@ fn goes_as_told<R: TestRuntime + Drop>(rt: R, alloc: Global, row: &Row) -> Resul
 /// Two clients, the first of which has pid 1 and secret 2, and no cancel: the second has her link.
 fn without_cancel() -> Row {
     Row {
+        pool: 1,
         first: None,
         second: word(1, 2),
-        cancel: None,
+        meanwhile: Meanwhile::Nobody,
         answer: SERVED,
-        idle: 1,
+        idle: &[1],
         starts: 1,
         reuses: 1,
         totals: Totals {
@@ -319,9 +333,9 @@ fn without_cancel() -> Row {
 fn a_statement_is_cancelled(rt: HostRuntime) -> Result<(), Fail> {
     let without = without_cancel();
     let row = Row {
-        cancel: Some(RIGHT),
+        meanwhile: Meanwhile::Cancel(RIGHT),
         answer: STRUCK,
-        idle: 2,
+        idle: &[2],
         starts: 2,
         reuses: 0,
         totals: Totals {
@@ -340,7 +354,7 @@ fn a_statement_is_cancelled(rt: HostRuntime) -> Result<(), Fail> {
 fn another_secret_cancels_nothing(rt: HostRuntime) -> Result<(), Fail> {
     let without = without_cancel();
     let row = Row {
-        cancel: Some(WRONG),
+        meanwhile: Meanwhile::Cancel(WRONG),
         ..without
     };
     assert!(rt; goes_as_told(rt, rt.alloc(), &without)?);
@@ -352,11 +366,12 @@ fn another_secret_cancels_nothing(rt: HostRuntime) -> Result<(), Fail> {
 #[test]
 fn a_late_cancel_strikes_nobody(rt: HostRuntime) -> Result<(), Fail> {
     let row = Row {
+        pool: 1,
         first: Some(word(1, 2)),
         second: word(3, 4),
-        cancel: Some(RIGHT),
+        meanwhile: Meanwhile::Cancel(RIGHT),
         answer: SERVED,
-        idle: 1,
+        idle: &[1],
         starts: 1,
         reuses: 2,
         totals: Totals {
@@ -367,6 +382,30 @@ fn a_late_cancel_strikes_nobody(rt: HostRuntime) -> Result<(), Fail> {
             left: 3,
             others: 9,
         },
+    };
+    assert!(rt; goes_as_told(rt, rt.alloc(), &row)?);
+    Ok(())
+}
+
+// A client with the next process id and the same secret comes and goes while the second has its link, and cancels nobody.
+#[test]
+fn a_login_cancels_nobody(rt: HostRuntime) -> Result<(), Fail> {
+    let without = without_cancel();
+    let row = Row {
+        pool: 2,
+        meanwhile: Meanwhile::Client(word(2, 2)),
+        idle: &[1, 2],
+        starts: 2,
+        totals: Totals {
+            arrived: 3,
+            granted: 3,
+            given_back: 3,
+            left: 3,
+            // three questions, three leases that are keyed, three ends
+            others: 9,
+            ..without.totals
+        },
+        ..without
     };
     assert!(rt; goes_as_told(rt, rt.alloc(), &row)?);
     Ok(())
