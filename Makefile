@@ -76,11 +76,12 @@ recipes: $(or $(PROGRAM),build/pgsess)
 test:
 	@TIMEFORMAT='make test took %lR by the clock, and %lU + %lS of processor time'; time $(MAKE) --no-print-directory gate
 
-# its steps, what is written from a table first; rt ci leaves the programs that it proved and built. Its own guess of a check's memory is four times what the largest
+# its steps, what is written from a table and what wrong versions quote first; rt ci leaves the programs that it proved and built. Its own guess of a check's memory is four times what the largest
 # crate's takes, and would let that crate wait until nothing else runs; so it is told how many checks run side by side
 gate:
 	@tools/kit.sh any
 	@tools/settings.py
+	@tools/wrong.py --fits
 	RT_JOBS=$$(tools/jobs.sh) tools/times.py rt ci
 	@$(MAKE) --no-print-directory $(program) $(tools)
 	tests/run

@@ -1,6 +1,6 @@
 #!/usr/bin/env python3
 """Tries all that can be tried before a proof: the layout of the files, the scripts by lint.sh, what is said of the settings by settings.py,
-what crates.txt says that crates use, and every crate of tests by `rt try`.
+what wrong versions quote, what crates.txt says that crates use, and every crate of tests by `rt try`.
 
 Usage: quick.py [CRATE..]      crates of tests; none: all of them
 
@@ -38,9 +38,11 @@ def named(listed):
     return not said, "\n".join(said)
 
 
-def is_content(tool):
-    """Whether a tool finds no fault: lint.sh in the scripts, settings.py in what is said of the settings."""
-    ran = subprocess.run([crates.ROOT / "tools" / tool], stdout=subprocess.PIPE, stderr=subprocess.STDOUT, text=True, errors="replace")
+def is_content(tool, *words):
+    """Whether a tool finds no fault: lint.sh in the scripts, settings.py in what is said of the settings, wrong.py in what wrong versions
+    quote."""
+    ran = subprocess.run([crates.ROOT / "tools" / tool, *words], stdout=subprocess.PIPE, stderr=subprocess.STDOUT, text=True,
+                         errors="replace")
     return ran.returncode == 0, ran.stdout
 
 
@@ -63,6 +65,7 @@ def main(names):
     with concurrent.futures.ThreadPoolExecutor(jobs) as pool:
         runs = {pool.submit(layout, listed): "the layout (rt fmt)", pool.submit(is_content, "lint.sh"): "the scripts (lint.sh)",
                 pool.submit(is_content, "settings.py"): "the settings (settings.py)",
+                pool.submit(is_content, "wrong.py", "--fits"): "what wrong versions quote (wrong.py)",
                 pool.submit(named, listed): "what crates use (crates.txt)", **{pool.submit(tested, it): it for it in tests}}
         for number, run in enumerate(concurrent.futures.as_completed(runs), 1):
             passed, said = run.result()

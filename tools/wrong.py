@@ -2,6 +2,7 @@
 """Tries the wrong versions of functions that stand in crates/*/wrong/*.edit: the prover must refuse each.
 
 Usage: wrong.py [CRATE..]      all crates with a folder wrong/, or these alone
+       wrong.py --fits         proves nothing: tells which edits, also of must-fail/, quote a text that doesn't stand once in its file
 
 An edit has the form of those in must-fail/: a line `file: src/lib.rt`, and then pairs of lines `old: TEXT` and `new: TEXT`, each old
 text standing once in that file. `rt ci` checks a crate once for each edit of must-fail/. Here edits of different functions are packed
@@ -371,7 +372,28 @@ def take_over(rtlib):
     return taken
 
 
+def misfits(crate):
+    """Which of a crate's edits can't be made, and why."""
+    folder = ROOT / "crates" / crate
+    files = (it for part in PARTS for it in (folder / part).rglob("*") if it.is_file())
+    texts = {str(it.relative_to(folder)): it.read_text(encoding="utf-8") for it in files}
+    for path in sorted([*folder.glob("wrong/*.edit"), *folder.glob("must-fail/*.edit")]):
+        edit = read_edit(crate, path)
+        why = edit.fault or applied(edit, texts)[1]
+        if why:
+            yield f"{path.relative_to(ROOT)}: {why}"
+
+
+def fit():
+    """Tells of the edits that can't be made."""
+    told = [it for crate in listed() for it in misfits(crate)]
+    print(*told, f"{len(told)} wrong versions can't be made", sep="\n")
+    return 1 if told else 0
+
+
 def main(names):
+    if names == ["--fits"]:
+        return fit()
     crates = listed()
     unknown = [it for it in names if it not in crates]
     if unknown:

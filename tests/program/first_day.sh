@@ -64,9 +64,15 @@ check "what the prover said is kept" grep -q "rt: frame_view proved" "$work/copy
 check "what isn't proved fails" refused stood_in env SAYS="NOT PROVED" "$work/copy/tools/prove.py" frame_view
 said "prove: NOT PROVED"
 check "make quick passes, a line for each crate" stood_in "$work/copy/tools/quick.py" message_view frame_view
-said "quick: 6 passed, 0 failed; nothing is proved"
+said "quick: 7 passed, 0 failed; nothing is proved"
 check "a test that fails is told" refused stood_in env SAYS=no "$work/copy/tools/quick.py" frame_view
 check "so is a file out of its layout" refused stood_in env LAYOUT="rt: formatted src/lib.rt" "$work/copy/tools/quick.py" frame_view
+quoting=$(find "$work/copy/crates" -path '*/wrong/*.edit' | sort | head -n 1)
+cp "$quoting" "$work/quoting"
+sed -i 's/^old: /old: no line says this: /' "$quoting"
+check "so is a wrong version that quotes a line which isn't there" refused stood_in "$work/copy/tools/quick.py" frame_view
+said "1 wrong versions can't be made"
+cp "$work/quoting" "$quoting"
 sed -i 's/^listen_port = 6432$/listen_port = 6433/' "$work/copy/examples/pgsess.ini"
 check "and a page that doesn't say what the table of the settings does" refused stood_in "$work/copy/tools/quick.py" frame_view
 said "by the table: listen_port = 6432"
