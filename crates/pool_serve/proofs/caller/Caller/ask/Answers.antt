@@ -1,0 +1,35 @@
+use Rattle.std.proofs.Common.{ap}
+use Rattle.link_desk.specs.declared.calls.Holder.{Holder}
+use Rattle.pool_serve.proofs.Guests.{lacks_memory, refused_asking, strange_asking}
+use Rattle.pool_serve.proofs.Stages.{stands_by}
+use Rattle.pool_serve.proofs.caller.Caller.ask.Goals as goal
+
+pub returns-in-Refused-clause-keeps : goal.returns-in-Refused-clause-keeps
+returns-in-Refused-clause-keeps g c = λ o x.
+    let h = c.in-Refused.ensures.holder in
+    let told = g.D.LinkDesk.counted c.ask.new.pass in
+    let held = g.D.LinkDesk.holder c.ask.new.pass in
+    record {
+      word = x.word;
+      stands = stands_by g.D.LinkDesk.home o told held _ _ c.close.ensures (refused_asking g.D.LinkDesk.home o _ told _ held _ _ x.stands (ap (λ (y : Holder). y.client) h) (ap (λ (y : Holder). y.lease) h) (ap (λ (y : Holder). y.found) h) (ap (λ (y : Holder). y.struck) h) c.in-Refused.refusal c.in-Refused.ensures.refused c.in-Refused.ensures.counted (ap (λ (y : Holder). y.refused) h));
+    }
+
+pub returns-in-Memory-clause-keeps : goal.returns-in-Memory-clause-keeps
+returns-in-Memory-clause-keeps g c = λ o x.
+    let h = c.in-Memory.ensures.holder in
+    let told = g.D.LinkDesk.counted c.ask.new.pass in
+    let held = g.D.LinkDesk.holder c.ask.new.pass in
+    record {
+      word = x.word;
+      stands = stands_by g.D.LinkDesk.home o told held _ _ c.close-in-Memory.ensures (lacks_memory g.D.LinkDesk.home o _ told _ held _ _ x.stands (ap (λ (y : Holder). y.client) h) (ap (λ (y : Holder). y.lease) h) (ap (λ (y : Holder). y.found) h) (ap (λ (y : Holder). y.struck) h) c.in-Memory.ensures.counted (ap (λ (y : Holder). y.refused) h));
+    }
+
+pub returns-in-Stranger-clause-keeps : goal.returns-in-Stranger-clause-keeps
+returns-in-Stranger-clause-keeps g c = λ o x.
+    let h = c.in-Stranger.ensures.holder in
+    let told = g.D.LinkDesk.counted c.ask.new.pass in
+    let held = g.D.LinkDesk.holder c.ask.new.pass in
+    record {
+      word = x.word;
+      stands = stands_by g.D.LinkDesk.home o told held _ _ c.close-in-Stranger.ensures (strange_asking g.D.LinkDesk.home o _ told _ held _ _ x.stands (ap (λ (y : Holder). y.client) h) (ap (λ (y : Holder). y.lease) h) (ap (λ (y : Holder). y.found) h) (ap (λ (y : Holder). y.struck) h) c.in-Stranger.ensures.counted (ap (λ (y : Holder). y.refused) h));
+    }
