@@ -100,6 +100,12 @@ def reaches(functions, texts):
 
 # ---- the edits of a crate
 
+def texts_of(folder):
+    """The texts of a crate's files, by their places in it."""
+    files = (it for part in PARTS for it in (folder / part).rglob("*") if it.is_file())
+    return {str(it.relative_to(folder)): it.read_text(encoding="utf-8") for it in files}
+
+
 def read_edit(crate, path):
     """An edit's pairs, or why it is none."""
     file, old, pairs = "", "", []
@@ -173,8 +179,7 @@ class Copy:
         if (ROOT / "HANDLES").exists():
             shutil.copy2(ROOT / "HANDLES", room)
         (room / "crates.txt").write_text("".join(f"{crates[it][1]}\n" for it in [*below(name, crates), name]))
-        files = (it for part in PARTS for it in (self.folder / part).rglob("*") if it.is_file())
-        self.texts = {str(it.relative_to(self.folder)): it.read_text(encoding="utf-8") for it in files}
+        self.texts = texts_of(self.folder)
         self.functions = [it for file, text in self.texts.items() if file.startswith("src/") for it in functions_of(name, file, text)]
         # the words of `rt check`, which would first sum up all that is below, by each way down to it, before each check
         crate = next(it for it in rtlib.crates_below(str(room)) if it.name == name)
@@ -375,8 +380,7 @@ def take_over(rtlib):
 def misfits(crate):
     """Which of a crate's edits can't be made, and why."""
     folder = ROOT / "crates" / crate
-    files = (it for part in PARTS for it in (folder / part).rglob("*") if it.is_file())
-    texts = {str(it.relative_to(folder)): it.read_text(encoding="utf-8") for it in files}
+    texts = texts_of(folder)
     for path in sorted([*folder.glob("wrong/*.edit"), *folder.glob("must-fail/*.edit")]):
         edit = read_edit(crate, path)
         why = edit.fault or applied(edit, texts)[1]
