@@ -1,7 +1,7 @@
 #!/usr/bin/env python3
 """Every setting of pgbouncer.ini stands in one table, crates/ini_config/settings.toml. This compares with it what is said of settings
-elsewhere: the code that reads, keeps and shows them, its definitions and proofs, wrong versions of it, and three pages. All of that is
-read and proved like what is written by hand; the table spares the writing.
+elsewhere: the code that reads, keeps and shows them, its definitions and proofs, wrong versions of it, tests, and four pages. All of that
+is read and proved like what is written by hand; the table spares the writing.
 
 Usage: settings.py             names each file that says something else, with the first such line; the status is 1 then
        settings.py --write     writes these files
@@ -16,12 +16,16 @@ import textwrap
 
 from settings_table import MAX_NUMBERS, TABLE, TOP, Table, in_code, in_definition, number, on_page
 
-# how long a line may be: of code, of a pair in it, of definitions, of the man page and of the example
-CODE, PAIR, DEFINITION, MAN, EXAMPLE = 100, 60, 140, 78, 118
+# how long a line may be: of code, of a pair in it, of definitions, of the man page and of the example; and a cell of a page's table
+CODE, PAIR, DEFINITION, MAN, EXAMPLE, CELL = 100, 60, 140, 78, 118, 300
 
 # What some lines of a file are by the table: those from the one that `path` leads to, or behind it where that one `stays`, up to the next
 # line `last`, or without that to the end. A path is beginnings of lines, each of them sought behind the one before.
 Block = collections.namedtuple("Block", "file path last lines stays", defaults=[False])
+
+
+# What there is in a file of its own, by the table: words of a line that are taken out or put in, which `changed` makes of the file's text.
+Change = collections.namedtuple("Change", "file changed")
 
 
 # ---- layout
@@ -36,6 +40,13 @@ def pair(one, two, pad):
     """A pair of an array, in four lines where it is too long for one."""
     is_short = len(f"{one}, {two}") <= PAIR
     return [f"{pad}({one}, {two}),"] if is_short else [f"{pad}(", f"{pad}    {one},", f"{pad}    {two},", f"{pad}),"]
+
+
+def array(head, items):
+    """An array, in one line where its items are short."""
+    items = list(items)
+    is_short = len(", ".join(items)) <= PAIR
+    return [f"{head} [{', '.join(items)}];"] if is_short else [f"{head} [", *(f"    {it}," for it in items), "];"]
 
 
 def comment(text, pad=""):
@@ -182,6 +193,28 @@ def keeps(table, it):
     return f"{head} mapped s _ _ (λ {letter} e. {made(table, **own)})"
 
 
+# ---- those that the lease book decides by
+
+def limits(table):
+    """The limits of a book: their fields, those under the settings, and those of an empty file."""
+    code, pages = "crates/book_model/src", "crates/book_model/specs"
+    some = table.limits
+    yield under(f"{code}/limits.rt", ["pub struct Limits {"], "    /// The database rows, which tell how many links a pool may have.",
+                joined([*comment(it.getter, "    "), f"    pub {it.name}: {it.held},"] for it in some))
+    yield under(f"{code}/limits.rt", ["impl Drop for Limits {", "        let Limits {"], "            rows: _,",
+                [f"            {it.name}: _," for it in some])
+    yield under(f"{code}/limits.rt", ["    ghost view = { λ l. record {", "      rows = l.rows;"], "    } };",
+                [f"      {it.limit} = l.{it.name};" for it in some])
+    yield under(f"{code}/limits.rt", ["    pub fn usual(", "        Limits {"], "            rows,",
+                [f"            {it.name}: {in_code(it)}," for it in some])
+    yield under(f"{code}/settings.rt", ["    Ok(Limits {"], "        rows: DatabaseRows::new(alloc, rows_of(alloc, settings)?)?,",
+                [f"        {it.name}: settings.{it.name}()," for it in some])
+    yield under(f"{pages}/Book.antt", ["pub record Limits", "  pub rows : "], "", [f"  pub {it.limit} : ℕ" for it in some])
+    yield under(f"{pages}/Limits.antt", ["limits_in s = record {", "  rows = "], "}", [f"  {it.limit} = s.{it.name};" for it in some])
+    yield under(f"{pages}/Limits.antt", ["usual rows = record {", "  rows = "], "}",
+                [f"  {it.limit} = {in_definition(it)};" for it in some])
+
+
 # ---- what is shown and said of them
 
 def config(table):
@@ -258,7 +291,186 @@ def wrong(table):
                 "file: src/option_values.rt", f"old:         {it.body}", f"new:         {it.wrong_reader}", ""])
 
 
+# ---- tests
+
+def tests(table):
+    """What the tests compare: of an empty file, and of one with every setting."""
+    file = "".join(f"{it.name} = {it.tried[0]}".rstrip() + "\n" for it in table.all)
+    rows = [("DEFAULTS", "What `SHOW CONFIG` shows of an empty file.", [data_row(it.name, it.first) for it in table.shown()]),
+            ("CHANGED", "And of the file with every setting.", [data_row(it.name, it.tried[1]) for it in table.shown()])]
+    numbers, switches = [[it for it in table.all if it.held in held] for held in (("u16", "u32"), ("bool",))]
+    lines = [
+        "//! What every setting is in an empty file, and in one that has them all: `tools/settings.py` writes this from the table.",
+        "use ini_config::{Settings, read_settings};",
+        "use std::test::Fail;",
+        "",
+        "/// A file with every setting.",
+        "pub(crate) const FILE: &[u8] =",
+        f"    {literal(f'[pgbouncer]{chr(10)}{file}'.encode('latin-1'))};",
+        "",
+    ]
+    for name, what, pieces in rows:
+        lines += [f"/// {what}", f"pub(crate) const {name}: &[&[u8]] = &[", *(f"    {it}," for it in pieces), "];", ""]
+    lines += told("numbers", "Those that are a number each.", "u32", numbers, number_told, number_of)
+    lines += told("switches", "Those that are on or off.", "bool", switches, lambda it: f"settings.{it.name}()", switch_of)
+    lines += [
+        "#[test]",
+        "fn every_number_and_switch(rt: HostRuntime) -> Result<(), Fail> {",
+        '    let first = read_settings(rt.alloc(), b"")?;',
+        "    assert!(rt; numbers(&first) == NUMBERS_AT_FIRST);",
+        "    assert!(rt; switches(&first) == SWITCHES_AT_FIRST);",
+        "    let changed = read_settings(rt.alloc(), FILE)?;",
+        "    assert!(rt; numbers(&changed) == NUMBERS_CHANGED);",
+        "    assert!(rt; switches(&changed) == SWITCHES_CHANGED);",
+        "    Ok(())",
+        "}",
+        "",
+    ]
+    yield Block("crates/app_tests/src/every_setting.rt", [], None, lines)
+
+
+def told(name, what, held, some, tell, of):
+    """A function that tells settings, and what it tells of both files."""
+    lines = []
+    for when, words in (("AT_FIRST", [it.first for it in some]), ("CHANGED", [it.tried[1] for it in some])):
+        lines += [*array(f"pub(crate) const {name.upper()}_{when}: [{held}; {len(some)}] =", map(of, some, words)), ""]
+    return [*lines, f"/// {what}", f"pub(crate) fn {name}(settings: &Settings) -> [{held}; {len(some)}] {{", "    [",
+            *(f"        {tell(it)}," for it in some), "    ]", "}", ""]
+
+
+def number_told(it):
+    """How code asks for a number, as wide as all are."""
+    return f"u32::from(settings.{it.name}())" if it.held == "u16" else f"settings.{it.name}()"
+
+
+def number_of(it, word):
+    """A number as code has it, which SHOW CONFIG shows so."""
+    return f"0o{word.lstrip('0') or '0'}" if it.kind == "mode" else number(int(word))
+
+
+def switch_of(_, word):
+    """Whether a switch is on that SHOW CONFIG shows so."""
+    return {"0": "false", "1": "true"}[word]
+
+
+def data_row(*columns):
+    """A DataRow of these texts, each with its length before it (PostgreSQL manual, "Message Formats"), as code has its bytes."""
+    texts = [it.encode("latin-1") for it in columns]
+    length = 6 + sum(4 + len(it) for it in texts)
+    parts = "".join(f"{as_number(len(it))}{escaped(it)}" for it in texts)
+    return f'b"D{as_number(length)}{as_number(len(texts), 2)}{parts}"'
+
+
+def as_number(n, size=4):
+    """The bytes of a number, in the order of the network, as code has them."""
+    return "".join("\\0" if it == 0 else f"\\x{it:02x}" for it in n.to_bytes(size, "big"))
+
+
+def escaped(text):
+    """Bytes of a text as code has them within quotes."""
+    marks = {ord("\n"): "\\n", ord("\""): "\\\"", ord("\\"): "\\\\"}
+    return "".join(marks.get(it) or (chr(it) if 32 <= it < 127 else f"\\x{it:02x}") for it in text)
+
+
+def literal(text):
+    """Bytes of a text as code has them."""
+    return f'b"{escaped(text)}"'
+
+
+# ---- keys that are read over
+
+def read_over(table):
+    """The keys of PgBouncer that are read over: in code, in its definition, and on two pages."""
+    code, definition = "crates/neutral_keys/src/lib.rt", "crates/neutral_keys/specs/ReadOver.antt"
+    any_value, pairs = table.read_over["any"], [(key, it) for row in table.read_over["at"] for key in row["keys"] for it in row["values"]]
+    yield Block(code, ["static AT_ANY_VALUE: "], "];", [
+        f"static AT_ANY_VALUE: [&str; {len(any_value)}] = [", *(f'    "{it}",' for it in any_value)])
+    yield Block(code, ["static AT_ONE_VALUE: "], "];", [
+        f"static AT_ONE_VALUE: [(&str, &str); {len(pairs)}] = [", *joined(pair(f'"{one}"', f'"{two}"', "    ") for one, two in pairs)])
+    yield under(definition, ["at_any_value ="], "", in_lines([f'codes "{it}"' for it in any_value]))
+    yield under(definition, ["at_one_value ="], "", in_lines([f'(codes "{one}", codes "{two}")' for one, two in pairs]))
+    said = {it: f" ({where})" for it, where in table.read_over["where"].items()}
+    rows = [(["any"], any_value), *((row["values"], row["keys"]) for row in table.read_over["at"])]
+    yield under("docs/OPERATING.md", ["### `[pgbouncer]`: read over", "| Keys | Values |", "|---|---|"], "", joined(
+        rows_of([f"`{it}`{said.get(it, '')}" for it in keys], ", ".join(map(value_on_page, values))) for values, keys in rows))
+    lines = []
+    for values, keys in rows:
+        head = " or ".join(it or "no value" for it in values)
+        names = ", ".join(it + said.get(it, "").replace("option `--users`", "option --users") for it in keys)
+        lines += [f".It at {head.replace('any', 'any value')}", *textwrap.wrap(names, MAN, break_on_hyphens=False)]
+    yield under("man/pgsess.ini.5", ["These keys of PgBouncer 1.24 are read over", ".Bl "], ".El", lines)
+
+
+def value_on_page(value):
+    """A value at which keys are read over, in Markdown."""
+    return value if value == "any" else f"`{value}`" if value else "empty"
+
+
+def rows_of(keys, text):
+    """Rows of a page's table with these keys in its first cell, and the text in the second of the first of them."""
+    cells = textwrap.wrap(", ".join(keys), CELL, break_on_hyphens=False)
+    return [f"| {cell.rstrip(',')} | {text if at == 0 else ''}".rstrip() + " |" for at, cell in enumerate(cells)]
+
+
+def in_lines(items):
+    """The items of a list in a definition, as many in a line as it takes, with its end."""
+    lines = []
+    for it in [*items, "[]"]:
+        if lines and len(f"{lines[-1]} ∷ {it}") <= DEFINITION:
+            lines[-1] += f" ∷ {it}"
+        else:
+            lines.append(f"    ∷ {it}" if lines else f"    {it}")
+    return lines
+
+
 # ---- pages
+
+def migrating(table):
+    """The keys of PgBouncer by what becomes of them: those that are served first, and nowhere else."""
+    file, names = "docs/MIGRATING.md", [it.name for it in table.paged if not it.own]
+    yield Change(file, lambda text: without_keys(text, "| `auth_file` | ", names))
+    rows = rows_of([f"`{it}`" for it in names], "[served](OPERATING.md#pgbouncer-served)")
+    behind = next(it for it in text_of(file).split("\n") if it.startswith("| `auth_file` | "))
+    yield under(file, ["| Keys | Here |", "|---|---|"], behind, rows)
+
+
+def without_keys(text, beginning, names):
+    """A text without these keys in the first cells of its table from a row on; a row whose keys are all gone goes too, but leaves what it
+    says to a next one that says nothing of its own."""
+    lines = text.split("\n")
+    at = next(it for it, line in enumerate(lines) if line.startswith(beginning))
+    end = lines.index("", at)
+    rows, orphaned = [], ""
+    for line in lines[at:end]:
+        _, keys, said, *others = line.split("|")
+        left = [it.strip() for it in keys.split(",") if it.strip().strip("`") not in names]
+        said, orphaned = said if said.strip() else orphaned or said, ""
+        if any(left):
+            rows.append("|".join(["", f" {', '.join(filter(None, left))} ", said, *others]))
+        else:
+            orphaned = said
+    return "\n".join([*lines[:at], *rows, *lines[end:]])
+
+
+def silenced(table):
+    """Which lines of the log there are by which switch alone, on the page that tells of them."""
+    for it in table.all:
+        for line in it.silences or []:
+            yield Change("docs/OPERATING.md", lambda text, it=it, line=line: with_switch(text, it, line))
+
+
+def with_switch(text, it, line):
+    """A text in which a line of the log is told with the switch that silences it."""
+    lines = text.split("\n")
+    at = next((at for at, row in enumerate(lines) if row.startswith(f"| {line} |")), None)
+    if at is None:
+        sys.exit(f"settings: docs/OPERATING.md has no line of the log {line}")
+    _, name, when, *others = lines[at].split("|")
+    when = re.sub(r"(, unless `\w+ = 0`|; with `\w+ = 1` alone) $", " ", when).rstrip()
+    by = f", unless `{it.name} = 0` " if it.default else f"; with `{it.name} = 1` alone "
+    lines[at] = "|".join(["", name, when + by, *others])
+    return "\n".join(lines)
+
 
 def sayings(it, *more):
     """What the man page and the example say of a setting: what it is, its values, and more."""
@@ -318,8 +530,16 @@ def example(table):
 
 # ---- files
 
+def text_of(file):
+    """What a file says, which may not be there yet."""
+    path = TOP / file
+    return path.read_text() if path.exists() else ""
+
+
 def replaced(text, block):
     """A file's text with a block as it is by the table."""
+    if isinstance(block, Change):
+        return block.changed(text)
     lines, at = text.split("\n"), 0
     for beginning in block.path:
         at = next((it for it in range(at, len(lines)) if lines[it].startswith(beginning)), None)
@@ -334,10 +554,10 @@ def replaced(text, block):
 def texts(table):
     """By each file's name what it says, and what it says by the table."""
     found = {}
-    for makes in (keys, values, definitions, bounds, config, notices, words, staying, wrong, operating, manual, example):
+    for makes in (keys, values, definitions, bounds, limits, config, notices, words, staying, wrong, tests, read_over, operating, manual,
+                  example, migrating, silenced):
         for block in makes(table):
-            path = TOP / block.file
-            old, new = found.get(block.file) or [path.read_text() if path.exists() else ""] * 2
+            old, new = found.get(block.file) or [text_of(block.file)] * 2
             found[block.file] = (old, replaced(new, block))
     return found
 

@@ -10,8 +10,8 @@ TOP = pathlib.Path(__file__).resolve().parents[1]
 TABLE = "crates/ini_config/settings.toml"
 
 # what the table may say of a setting, beside the words of kinds
-WORDS = set("""name kind default choices getter note bounded wrong_reader at_start shown shown_behind own pgbouncer unlike meaning zero
-example proposed comment arm begins_line""".split())
+WORDS = set("""name kind default choices getter note limit bounded first tried wrong_reader at_start shown shown_behind own pgbouncer
+unlike silences meaning zero example proposed comment arm begins_line""".split())
 
 # what most numbers are: of them `pgsess check` needn't say what they take
 MAX_NUMBERS = (0, 2 ** 31 - 1)
@@ -43,7 +43,7 @@ class Setting:
 
     def needs(self):
         """The words without which nothing is written of it."""
-        needs = ["default", "getter", "meaning", "values"]
+        needs = ["default", "getter", "first", "tried", "meaning", "values"]
         for words, has in (("read means", self.held), ("value cell", self.shown is not False), ("differs", self.at_start),
                            ("within", self.bounded), ("choices", self.kind == "choice")):
             needs += words.split() if has else []
@@ -54,7 +54,8 @@ class Setting:
 
 
 class Table:
-    """The settings: all, those that are kept in a field, those whose bounds are stated, and all in the order of the pages."""
+    """The settings: all, those that are kept in a field, those whose bounds are stated, those that the lease book decides by, and all in
+    the order of the pages; and the keys that are read over."""
 
     def __init__(self):
         said = tomllib.loads((TOP / TABLE).read_text())
@@ -63,7 +64,9 @@ class Table:
             sys.exit(f"settings: not once in `pages` and once among the settings: {' '.join(set(names) ^ set(said['pages']))}")
         if unknown := {key for row in said["setting"] for key in row} - WORDS.union(*said["kind"].values()):
             sys.exit(f"settings: words that nothing reads: {' '.join(unknown)}")
-        self.bounds, self.over = said["bound"], said["over"]
+        self.bounds, self.over, self.read_over = said["bound"], said["over"], said["read_over"]
+        if twice := set(names) & {*self.read_over["any"], *(key for row in self.read_over["at"] for key in row["keys"])}:
+            sys.exit(f"settings: served, and read over: {' '.join(twice)}")
         bounds = {it["name"]: it["value"] for it in self.bounds}
         self.all = [Setting(row, said["kind"], bounds) for row in said["setting"]]
         for it in self.all:
@@ -71,6 +74,7 @@ class Table:
                 sys.exit(f"settings: {it.name} lacks {' '.join(lacking)}")
         self.kept = [it for it in self.all if it.held]
         self.bounded = [it for it in self.all if it.bounded]
+        self.limits = [it for it in self.all if it.limit]
         self.paged = sorted(self.all, key=lambda it: said["pages"].index(it.name))
 
     def shown(self):

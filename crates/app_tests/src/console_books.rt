@@ -27,15 +27,11 @@ pub(crate) struct Rows {
 }
 
 fn limits(alloc: Global) -> Result<Arc<Limits>, AllocError> {
-    let limits = Limits {
-        max_client_conn: 100,
-        max_links: 100,
-        default_pool_size: 20,
-        query_wait_timeout: 0,
-        server_lifetime: 3_600,
-        server_idle_timeout: 0,
-        rows: DatabaseRows::new(alloc, Vec::new(alloc))?,
-    };
+    let rows = DatabaseRows::new(alloc, Vec::new(alloc))?;
+    let mut limits = Limits::usual(rows);
+    limits.max_links = 100;
+    limits.query_wait_timeout = 0;
+    limits.server_idle_timeout = 0;
     Ok(Arc::new(alloc, limits)?)
 }
 

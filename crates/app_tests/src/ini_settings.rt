@@ -1,4 +1,5 @@
-//! What settings files say.
+//! What settings files say; of every number and switch `every_setting` tells.
+use crate::every_setting::{NUMBERS_AT_FIRST, numbers};
 use ini_config::{AuthType, ConsoleStyle, Names, Settings, read_settings};
 use std::test::Fail;
 
@@ -65,33 +66,6 @@ fn pool_sizes(rt: HostRuntime) -> Result<(), Fail> {
 
 const EVERY_KEY: &[u8] =
     b"[pgbouncer]\nlisten_addr = * , ::1,,localhost\nunix_socket_dir = /run/pool\nunix_socket_mode = 0660\nunix_socket_group = www\npeer_id = 127\ntcp_keepalive = 0\ntcp_keepidle = 60\ntcp_keepintvl = 10\ntcp_keepcnt = 5\ntcp_user_timeout = 2147483647\nlisten_port = 1\nauth_type = plain\nadmin_users = root , ,Ann\npool_mode=session\nserver_reset_query = Discard All\nmax_client_conn = 10000\ndefault_pool_size = 3\nmax_links = 4\nquery_wait_timeout = 0\nserver_lifetime = 5\nserver_idle_timeout = 2147483647\nmax_packet_size = 1024\nignore_startup_parameters = extra_float_digits,Options\ntrack_extra_parameters = search_path\nuntrack_parameters = TimeZone, application_name,\nverbose = 2\n[users]\n";
-
-/// The settings that are read as a number each.
-fn numbers(settings: &Settings) -> [u32; 8] {
-    [
-        u32::from(settings.listen_port()),
-        settings.max_client_conn(),
-        settings.default_pool_size(),
-        settings.max_links(),
-        settings.query_wait_timeout(),
-        settings.server_lifetime(),
-        settings.server_idle_timeout(),
-        settings.max_packet_size(),
-    ]
-}
-
-#[test]
-fn settings_of_numbers(rt: HostRuntime) -> Result<(), Fail> {
-    let files: &[(&[u8], [u32; 8])] = &[
-        (b"", [6432, 100, 20, 1000, 120, 3600, 600, 2_147_483_647]),
-        (EVERY_KEY, [1, 10_000, 3, 4, 0, 5, 2_147_483_647, 1024]),
-    ];
-    for &(text, expected) in files {
-        let settings = read_settings(rt.alloc(), text)?;
-        assert!(rt; numbers(&settings) == expected);
-    }
-    Ok(())
-}
 
 /// Whether the names are these.
 fn are(names: &Names, expected: &[&[u8]]) -> bool {
@@ -323,37 +297,24 @@ fn addresses_that_are_listened_on(rt: HostRuntime) -> Result<(), Fail> {
     Ok(())
 }
 
-/// The rights of the Unix socket, and the numbers of peers and connections.
-fn socket_numbers(settings: &Settings) -> [u32; 6] {
-    [
-        settings.unix_socket_mode(),
-        settings.peer_id(),
-        settings.tcp_keepidle(),
-        settings.tcp_keepintvl(),
-        settings.tcp_keepcnt(),
-        settings.tcp_user_timeout(),
-    ]
-}
-
 #[test]
 fn settings_of_sockets(rt: HostRuntime) -> Result<(), Fail> {
-    let files: &[(&[u8], [u32; 6], bool)] = &[
-        (b"", [0o777, 0, 0, 0, 0, 0], true),
-        (EVERY_KEY, [0o660, 127, 60, 10, 5, 2_147_483_647], false),
+    let files: &[(&[u8], u32, bool)] = &[
+        (EVERY_KEY, 0o660, false),
         (
             b"[pgbouncer]\ntcp_keepalive = 1\nunix_socket_mode = 0777",
-            [0o777, 0, 0, 0, 0, 0],
+            0o777,
             true,
         ),
         (
             b"[pgbouncer]\ntcp_keepalive = no\nunix_socket_mode = 770",
-            [0o770, 0, 0, 0, 0, 0],
+            0o770,
             true,
         ),
     ];
-    for &(text, numbers, keeps_alive) in files {
+    for &(text, mode, keeps_alive) in files {
         let settings = read_settings(rt.alloc(), text)?;
-        assert!(rt; socket_numbers(&settings) == numbers);
+        assert!(rt; settings.unix_socket_mode() == mode);
         assert!(rt; settings.tcp_keepalive() == keeps_alive);
     }
     Ok(())
@@ -381,36 +342,19 @@ fn the_unix_socket(rt: HostRuntime) -> Result<(), Fail> {
 const FIGURES: &[u8] =
     b"[pgbouncer]\nserver_connect_timeout = 0\nclient_login_timeout = 2147483647\nstats_users = Mon, ,\"a b\"\nstats_period = 1\nlog_stats = 0\nconsole_style = pgbouncer\nmetrics_addr = localhost, ::1\nmetrics_port = 65535\n";
 
-/// The limits by the clock, and what is told of figures.
-fn figure_numbers(settings: &Settings) -> [u32; 4] {
-    [
-        settings.server_connect_timeout(),
-        settings.client_login_timeout(),
-        settings.stats_period(),
-        u32::from(settings.metrics_port()),
-    ]
-}
-
 #[test]
 fn settings_of_figures(rt: HostRuntime) -> Result<(), Fail> {
-    let files: &[(&[u8], [u32; 4], bool, ConsoleStyle)] = &[
-        (b"", [15, 60, 60, 9127], true, ConsoleStyle::Own),
-        (
-            FIGURES,
-            [0, 2_147_483_647, 1, 65_535],
-            false,
-            ConsoleStyle::PgBouncer,
-        ),
+    let files: &[(&[u8], bool, ConsoleStyle)] = &[
+        (b"", true, ConsoleStyle::Own),
+        (FIGURES, false, ConsoleStyle::PgBouncer),
         (
             b"[pgbouncer]\nlog_stats = no\nconsole_style = pgsess",
-            [15, 60, 60, 9127],
             true,
             ConsoleStyle::Own,
         ),
     ];
-    for &(text, numbers, is_logged, style) in files {
+    for &(text, is_logged, style) in files {
         let settings = read_settings(rt.alloc(), text)?;
-        assert!(rt; figure_numbers(&settings) == numbers);
         assert!(rt; settings.log_stats() == is_logged);
         assert!(rt; settings.console_style() == style);
     }
@@ -456,6 +400,6 @@ const NEUTRAL: &[u8] =
 fn keys_that_ask_for_nothing(rt: HostRuntime) -> Result<(), Fail> {
     let settings = read_settings(rt.alloc(), NEUTRAL)?;
     assert!(rt; has_row(&settings, b"x", b"db", 5432, b"x"));
-    assert!(rt; numbers(&settings) == [6432, 100, 20, 1000, 120, 3600, 600, 2_147_483_647]);
+    assert!(rt; numbers(&settings) == NUMBERS_AT_FIRST);
     Ok(())
 }

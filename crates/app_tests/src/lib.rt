@@ -10,6 +10,8 @@ mod console;
 #[cfg(test)]
 mod console_books;
 #[cfg(test)]
+mod every_setting;
+#[cfg(test)]
 mod faults;
 #[cfg(test)]
 mod ini_faults;

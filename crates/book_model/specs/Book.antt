@@ -43,10 +43,10 @@ pub record Row : Type 0 where
 
 -- seconds; a wait or idle timeout of 0 is none
 pub record Limits : Type 0 where
-  pub max_clients : ℕ
-  pub max_links : ℕ
   pub rows : List Row
+  pub max_clients : ℕ
   pub default_size : ℕ
+  pub max_links : ℕ
   pub wait_timeout : ℕ
   pub lifetime : ℕ
   pub idle_timeout : ℕ

@@ -13,11 +13,23 @@ rows_in default rows = map (row_in default) rows
 
 abbrev pub limits_in : Settings → Limits
 limits_in s = record {
-  max_clients = s.max_client_conn;
-  max_links = s.max_links;
   rows = rows_in s.default_pool_size s.rows;
+  max_clients = s.max_client_conn;
   default_size = s.default_pool_size;
+  max_links = s.max_links;
   wait_timeout = s.query_wait_timeout;
   lifetime = s.server_lifetime;
   idle_timeout = s.server_idle_timeout;
+}
+
+-- what an empty settings file says, over these rows
+abbrev pub usual : List Row → Limits
+usual rows = record {
+  rows = rows;
+  max_clients = 100;
+  default_size = 20;
+  max_links = 1000;
+  wait_timeout = 120;
+  lifetime = 3600;
+  idle_timeout = 600;
 }

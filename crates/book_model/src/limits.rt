@@ -1,6 +1,7 @@
 //! The settings that the lease book decides by.
 ghost use Rattle.std.specs.Prelude.{◌≡◌};
 ghost use Rattle.book_model.specs.Book.{is_listed, row_for, size_of};
+ghost use Rattle.book_model.specs.Limits.{usual};
 
 use crate::rows::DatabaseRows;
 use start_keys::StartKey;
@@ -15,21 +16,21 @@ pub const MAX_PRESENT: u32 = 10_080;
 /// The most links that a book can hold, lent and idle together.
 pub const MAX_LINKS: u32 = 10_000;
 
-/// The settings that the lease book decides by, with PgBouncer's names. Times are in seconds.
+/// The settings that the lease book decides by, with PgBouncer's names. Times are in seconds; clients and links are 10,000 at most.
 pub struct Limits {
-    /// The most clients that may be there at once, at most 10,000.
+    /// How many clients may be connected.
     pub max_client_conn: u32,
-    /// The most links that there may be at once, lent and idle together, at most 10,000.
-    pub max_links: u32,
-    /// The most links of a pool whose database row is none of the rows.
+    /// How many links a pool may have whose row says nothing else.
     pub default_pool_size: u32,
-    /// How long a client may wait for a link; 0 is for ever.
+    /// How many links there may be in all.
+    pub max_links: u32,
+    /// For how many seconds a client waits for a link; 0 is without limit.
     pub query_wait_timeout: u32,
-    /// How long after its start a link may still be kept for the next client.
+    /// After how many seconds a link is closed when it comes back; 0: after its first use.
     pub server_lifetime: u32,
-    /// How long a link may lie idle; 0 is for ever.
+    /// After how many seconds an idle link is closed; 0: never.
     pub server_idle_timeout: u32,
-    /// The database rows: each tells the most links of a pool of it, and which idle links may be kept.
+    /// The database rows, which tell how many links a pool may have.
     pub rows: DatabaseRows,
 }
 
@@ -37,8 +38,8 @@ impl Drop for Limits {
     fn drop(self) {
         let Limits {
             max_client_conn: _,
-            max_links: _,
             default_pool_size: _,
+            max_links: _,
             query_wait_timeout: _,
             server_lifetime: _,
             server_idle_timeout: _,
@@ -55,10 +56,10 @@ impl Model for Limits {
     ghost Value = { LimitsOf };
 
     ghost view = { λ l. record {
-      max_clients = l.max_client_conn;
-      max_links = l.max_links;
       rows = l.rows;
+      max_clients = l.max_client_conn;
       default_size = l.default_pool_size;
+      max_links = l.max_links;
       wait_timeout = l.query_wait_timeout;
       lifetime = l.server_lifetime;
       idle_timeout = l.server_idle_timeout;
@@ -68,6 +69,21 @@ impl Model for Limits {
 }
 
 impl Limits {
+    /// What an empty settings file says, over these rows: for tests, which change what they are about.
+    pub fn usual(rows: DatabaseRows) -> Limits
+        ensures { result ≡ usual rows }
+    {
+        Limits {
+            max_client_conn: 100,
+            default_pool_size: 20,
+            max_links: 1000,
+            query_wait_timeout: 120,
+            server_lifetime: 3600,
+            server_idle_timeout: 600,
+            rows,
+        }
+    }
+
     /// The most links of a pool of the database of this name.
     pub fn pool_size(&self, database: &[u8]) -> u32
         ensures { result ≡ size_of self.now.default_size (row_for database.now self.now.rows) }

@@ -41,8 +41,8 @@ pub fn limits_of(alloc: Global, settings: &Settings) -> Result<Limits, AllocErro
 {
     Ok(Limits {
         max_client_conn: settings.max_client_conn(),
-        max_links: settings.max_links(),
         default_pool_size: settings.default_pool_size(),
+        max_links: settings.max_links(),
         query_wait_timeout: settings.query_wait_timeout(),
         server_lifetime: settings.server_lifetime(),
         server_idle_timeout: settings.server_idle_timeout(),

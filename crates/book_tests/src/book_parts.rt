@@ -139,15 +139,10 @@ fn rows(alloc: Global, settings: Settings) -> Result<DatabaseRows, AllocError> {
 
 /// The limits of these settings.
 pub fn limits(alloc: Global, settings: Settings) -> Result<Arc<Limits>, AllocError> {
-    let mut limits = Limits {
-        max_client_conn: 100,
-        max_links: 100,
-        default_pool_size: 20,
-        query_wait_timeout: 0,
-        server_lifetime: 3_600,
-        server_idle_timeout: 0,
-        rows: rows(alloc, settings)?,
-    };
+    let mut limits = Limits::usual(rows(alloc, settings)?);
+    limits.max_links = 100;
+    limits.query_wait_timeout = 0;
+    limits.server_idle_timeout = 0;
     match settings {
         Settings::Default | Settings::PoolsOf(_) | Settings::Shop(_) => {}
         Settings::OneClient => limits.max_client_conn = 1,

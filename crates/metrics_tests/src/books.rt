@@ -43,15 +43,10 @@ fn limits(alloc: Global) -> Result<Arc<Limits>, AllocError> {
     let mut rows = Vec::new(alloc);
     rows.push(row(alloc, b"shop", b"127.0.0.1", 5432, b"elsewhere", 5)?)?;
     rows.push(row(alloc, STRANGE, b"db.example", 1, b"*", 20)?)?;
-    let limits = Limits {
-        max_client_conn: 100,
-        max_links: 100,
-        default_pool_size: 20,
-        query_wait_timeout: 0,
-        server_lifetime: 3_600,
-        server_idle_timeout: 0,
-        rows: DatabaseRows::new(alloc, rows)?,
-    };
+    let mut limits = Limits::usual(DatabaseRows::new(alloc, rows)?);
+    limits.max_links = 100;
+    limits.query_wait_timeout = 0;
+    limits.server_idle_timeout = 0;
     Ok(Arc::new(alloc, limits)?)
 }
 

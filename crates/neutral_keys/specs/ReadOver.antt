@@ -11,14 +11,13 @@ Text = List ℕ
 -- at any value: where its log goes, how its own works are tuned, or what has no effect without another key at a value that is refused
 unfoldable pub at_any_value : List Text
 at_any_value =
-    codes "auth_file" ∷ codes "logfile" ∷ codes "pidfile" ∷ codes "syslog" ∷ codes "verbose" ∷ codes "log_pooler_errors"
-    ∷ codes "job_name" ∷ codes "pkt_buf" ∷ codes "listen_backlog" ∷ codes "server_check_delay" ∷ codes "server_login_retry"
-    ∷ codes "server_reset_query_always" ∷ codes "syslog_facility" ∷ codes "syslog_ident" ∷ codes "service_name" ∷ codes "conffile"
-    ∷ codes "reserve_pool_timeout" ∷ codes "autodb_idle_timeout" ∷ codes "cancel_wait_timeout" ∷ codes "suspend_timeout"
-    ∷ codes "server_check_query" ∷ codes "max_prepared_statements" ∷ codes "sbuf_loopcnt" ∷ codes "tcp_defer_accept"
-    ∷ codes "tcp_socket_buffer" ∷ codes "dns_max_ttl" ∷ codes "dns_nxdomain_ttl" ∷ codes "client_tls_ca_file"
-    ∷ codes "client_tls_key_file" ∷ codes "client_tls_cert_file" ∷ codes "client_tls_protocols" ∷ codes "client_tls_ciphers"
-    ∷ codes "client_tls_ecdhcurve" ∷ codes "client_tls_dheparams" ∷ []
+    codes "auth_file" ∷ codes "logfile" ∷ codes "pidfile" ∷ codes "syslog" ∷ codes "verbose" ∷ codes "log_pooler_errors" ∷ codes "job_name"
+    ∷ codes "pkt_buf" ∷ codes "listen_backlog" ∷ codes "server_check_delay" ∷ codes "server_login_retry" ∷ codes "server_reset_query_always"
+    ∷ codes "syslog_facility" ∷ codes "syslog_ident" ∷ codes "service_name" ∷ codes "conffile" ∷ codes "reserve_pool_timeout"
+    ∷ codes "autodb_idle_timeout" ∷ codes "cancel_wait_timeout" ∷ codes "suspend_timeout" ∷ codes "server_check_query"
+    ∷ codes "max_prepared_statements" ∷ codes "sbuf_loopcnt" ∷ codes "tcp_defer_accept" ∷ codes "tcp_socket_buffer" ∷ codes "dns_max_ttl"
+    ∷ codes "dns_nxdomain_ttl" ∷ codes "client_tls_ca_file" ∷ codes "client_tls_key_file" ∷ codes "client_tls_cert_file"
+    ∷ codes "client_tls_protocols" ∷ codes "client_tls_ciphers" ∷ codes "client_tls_ecdhcurve" ∷ codes "client_tls_dheparams" ∷ []
 
 -- at this value, at which it asks for nothing that isn't done; of TLS to servers `allow` and `prefer` do without
 unfoldable pub at_one_value : List (Text × Text)
@@ -27,12 +26,12 @@ at_one_value =
     ∷ (codes "max_user_connections", codes "0") ∷ (codes "max_db_client_connections", codes "0")
     ∷ (codes "max_user_client_connections", codes "0") ∷ (codes "query_timeout", codes "0") ∷ (codes "client_idle_timeout", codes "0")
     ∷ (codes "idle_transaction_timeout", codes "0") ∷ (codes "server_fast_close", codes "0") ∷ (codes "disable_pqexec", codes "0")
-    ∷ (codes "application_name_add_host", codes "0") ∷ (codes "server_round_robin", codes "0") ∷ (codes "so_reuseport", codes "0")
-    ∷ (codes "so_reuseport", codes "1") ∷ (codes "dns_zone_check_period", codes "0") ∷ (codes "resolv_conf", codes "")
+    ∷ (codes "application_name_add_host", codes "0") ∷ (codes "server_round_robin", codes "0") ∷ (codes "dns_zone_check_period", codes "0")
+    ∷ (codes "so_reuseport", codes "0") ∷ (codes "so_reuseport", codes "1") ∷ (codes "resolv_conf", codes "")
+    ∷ (codes "auth_dbname", codes "") ∷ (codes "auth_ident_file", codes "") ∷ (codes "auth_hba_file", codes "")
+    ∷ (codes "auth_query", codes "") ∷ (codes "auth_user", codes "") ∷ (codes "user", codes "")
     ∷ (codes "client_tls_sslmode", codes "disable") ∷ (codes "server_tls_sslmode", codes "disable")
-    ∷ (codes "server_tls_sslmode", codes "allow") ∷ (codes "server_tls_sslmode", codes "prefer") ∷ (codes "auth_dbname", codes "")
-    ∷ (codes "auth_ident_file", codes "") ∷ (codes "auth_hba_file", codes "") ∷ (codes "auth_query", codes "")
-    ∷ (codes "auth_user", codes "") ∷ (codes "user", codes "") ∷ []
+    ∷ (codes "server_tls_sslmode", codes "allow") ∷ (codes "server_tls_sslmode", codes "prefer") ∷ []
 
 -- ---- in a row of [databases]
 

@@ -80,14 +80,10 @@ fn rows(alloc: Global) -> Result<DatabaseRows, AllocError> {
 
 /// Ten clients, four links, and times that aren't reached.
 pub fn limits(alloc: Global) -> Result<Arc<Limits>, AllocError> {
-    let limits = Limits {
-        max_client_conn: 10,
-        max_links: 4,
-        default_pool_size: 2,
-        query_wait_timeout: 0,
-        server_lifetime: 3_600,
-        server_idle_timeout: 600,
-        rows: rows(alloc)?,
-    };
+    let mut limits = Limits::usual(rows(alloc)?);
+    limits.max_client_conn = 10;
+    limits.max_links = 4;
+    limits.default_pool_size = 2;
+    limits.query_wait_timeout = 0;
     Ok(Arc::new(alloc, limits)?)
 }

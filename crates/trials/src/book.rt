@@ -47,15 +47,11 @@ struct Bench {
 fn limits(alloc: Global) -> Result<Arc<Limits>, AllocError> {
     let mut rows = Vec::new(alloc);
     rows.push(row(alloc, b"bench", 10)?)?;
-    let limits = Limits {
-        max_client_conn: 10_000,
-        max_links: 1_000,
-        default_pool_size: 10,
-        query_wait_timeout: 0,
-        server_lifetime: 3_600,
-        server_idle_timeout: 0,
-        rows: DatabaseRows::new(alloc, rows)?,
-    };
+    let mut limits = Limits::usual(DatabaseRows::new(alloc, rows)?);
+    limits.max_client_conn = 10_000;
+    limits.default_pool_size = 10;
+    limits.query_wait_timeout = 0;
+    limits.server_idle_timeout = 0;
     Ok(Arc::new(alloc, limits)?)
 }
 

@@ -23,15 +23,13 @@ fn rows(alloc: Global, count: u64) -> Result<DatabaseRows, AllocError> {
 
 /// Links live for a day, and lie idle for as long.
 fn limits(alloc: Global, count: u64) -> Result<Arc<Limits>, AllocError> {
-    let limits = Limits {
-        max_client_conn: 10_000,
-        max_links: 10_000,
-        default_pool_size: 10_000,
-        query_wait_timeout: 0,
-        server_lifetime: 86_400,
-        server_idle_timeout: 86_400,
-        rows: rows(alloc, count)?,
-    };
+    let mut limits = Limits::usual(rows(alloc, count)?);
+    limits.max_client_conn = 10_000;
+    limits.max_links = 10_000;
+    limits.default_pool_size = 10_000;
+    limits.query_wait_timeout = 0;
+    limits.server_lifetime = 86_400;
+    limits.server_idle_timeout = 86_400;
     Ok(Arc::new(alloc, limits)?)
 }
 

@@ -45,7 +45,7 @@ pub const CUT: usize = 8_192;
 pub const WELCOME: usize = 260;
 
 /// A client's connection from this host, or over a Unix socket: `unix`.
-fn visit(host: &str) -> Visit {
+pub fn visit(host: &str) -> Visit {
     Visit {
         host: match ArrayString::from(host) {
             Ok(host) => host,
@@ -115,15 +115,10 @@ fn rows(alloc: Global, size: u32) -> Result<DatabaseRows, AllocError> {
 
 /// Limits of so many clients and pools of so many links, a wait of 5 seconds, a lifetime of 3,600 and an idle timeout of 600.
 pub fn limits(alloc: Global, clients: u32, pool: u32) -> Result<Arc<Limits>, AllocError> {
-    let limits = Limits {
-        max_client_conn: clients.min(MAX_CLIENTS),
-        max_links: 100,
-        default_pool_size: pool,
-        query_wait_timeout: 5,
-        server_lifetime: 3_600,
-        server_idle_timeout: 600,
-        rows: rows(alloc, pool)?,
-    };
+    let mut limits = Limits::usual(rows(alloc, pool)?);
+    limits.max_client_conn = clients.min(MAX_CLIENTS);
+    limits.default_pool_size = pool;
+    limits.query_wait_timeout = 5;
     Ok(Arc::new(alloc, limits)?)
 }
 

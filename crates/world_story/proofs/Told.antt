@@ -28,6 +28,7 @@ use Rattle.login_laws.specs.StartKeys.{IsLawfulRow}
 use Rattle.login_core.specs.Dialogue.{LoginRow, ok}
 use Rattle.book_model.specs.Book.{Book, Limits, Row, empty_book}
 use Rattle.book_model.specs.Laws.{HasLink}
+use Rattle.book_model.specs.Limits.{usual}
 use Rattle.book_model.specs.Places.{IsPlaceOf}
 use Rattle.book_model.specs.Outcomes.{apply, apply_return}
 use Rattle.book_model.specs.declared.events.Beyond.TheVariants.{Nothing}
@@ -88,7 +89,7 @@ abbrev pub rows : ℕ → List Row
 rows size = record { name = db.name; host = db.host; port = db.port; dbname = db.dbname; size = size } ∷ []
 
 abbrev pub limits : Limits
-limits = record { max_clients = 9; max_links = 9; rows = rows 9; default_size = 9; wait_timeout = 0; lifetime = 3600; idle_timeout = 600 }
+limits = record (usual (rows 9)) { max_clients = 9; max_links = 9; default_size = 9; wait_timeout = 0 }
 
 -- the only link that the book lends is at the place of the database row
 pub lent_alone : {b : Book} → b.lent ≡ record { number = 1; key = key; started_at = 0; since = 0 } ∷ [] → IsPlaceOf b 1 db.host db.port
