@@ -12,7 +12,8 @@ is kept.
 
 Last, each growth is refused in turn from a client's coming on up to its lease, over a link that is started for it; and what it is told is
 the cause: P9 where memory was refused, in the start too; P7 only where the log says why its server wasn't reached. One that is closed
-without a byte is counted in the log.
+without a byte is counted in the log. The same where the database's row names the user of its links, of whose password a secret is made
+within the start.
 """
 import os
 import pathlib
@@ -43,6 +44,8 @@ OK = GIVEN["ok"]
 LOG_SECONDS = 10
 # what a client is told of a growth that is refused, and how often at least
 FEWEST_TOLD = {"served": 1, "P9": 5, "P9 in its start": 10, "P7": 1, "nothing": 3}
+# a database whose row names the user of its links, with a password
+OWN = "own"
 # the question for the MD5 answer, whose salt stands behind it
 ASKED = GIVEN["md5"][:9]
 TALK = [query("SHOW application_name"), query("CREATE TEMP TABLE t (a text)"), query("SET application_name TO 'x'"),
@@ -158,7 +161,8 @@ class Growths:
         self.pages = {name: Counted(self.place, name, 4) for name in ("serve", "stub")}
         words = {name: preloaded(self.place, name, library, page, program) for name, page in self.pages.items()}
         self.stub = Stub(self.place, words["stub"], pathlib.Path(CATALOGUE).read_bytes())
-        self.pooler = Pooler(self.place, self.stub, words["serve"], size=1, clients=2, links=1, wait=MAX_WAIT, auth=auth)
+        own = f"{OWN} = host={HERE} port={self.stub.port} dbname=shop user=ann password={USERS['ann'][0]}"
+        self.pooler = Pooler(self.place, self.stub, words["serve"], size=1, clients=2, links=1, wait=MAX_WAIT, auth=auth, more_rows=own)
         self.by_md5 = auth == "md5"
         self.exact = ASKED + bytes(4) + exact if self.by_md5 else exact
         self.files = [FOR_EVER, FOR_EVER]
@@ -212,10 +216,10 @@ class Growths:
         one.talks(TALK[3:], first=4)
         return [one.leaves(), asking.got]
 
-    def served(self, user, seconds=PATIENCE):
+    def served(self, user, seconds=PATIENCE, database="shop"):
         """What a client is given that says all of its statements, if it gets a link."""
         one = self.talker(seconds)
-        one.comes(user)
+        one.comes(user, database)
         if one.is_in():
             one.talks(TALK)
         return one.leaves()
@@ -330,10 +334,10 @@ class Sweep:
 
 
 class Causes:
-    """A client whose link is started for it, of which each growth is refused in turn: what it is told."""
+    """A client of a database whose link is started for it, of which each growth is refused in turn: what it is told."""
 
-    def __init__(self, growths):
-        self.growths, self.told, self.runs = growths, [], 0
+    def __init__(self, growths, database):
+        self.growths, self.database, self.told, self.runs = growths, database, [], 0
         self.whole = self.given()
 
     def log(self):
@@ -343,7 +347,7 @@ class Causes:
         """What a client is given; that another user has the link before has it start one."""
         self.growths.served("bc", SECONDS)
         refuse()
-        return plain(self.growths.served("ann", SECONDS))
+        return plain(self.growths.served("ann", SECONDS, self.database))
 
     def unserved(self):
         """How many connections the log says were closed for want of something."""
@@ -423,11 +427,11 @@ class RefusedGrowths(Show):
                          f"({time.monotonic() - start:.0f} s)", f"{faults[:MAX_TOLD]}" if faults else "")
         return not faults
 
-    def causes(self, growths):
-        causes = Causes(growths)
+    def causes(self, growths, database):
+        causes = Causes(growths, database)
         fault = causes.fault()
         self.runs += causes.runs
-        what = f"serve, a growth of a client's coming and of its link's start: {causes.runs} runs, told {causes.counts()}"
+        what = f"serve, a growth of a client's coming to {database} and of its link's start: {causes.runs} runs, told {causes.counts()}"
         self.passes.tell(what, fault)
 
     def all(self):
@@ -437,7 +441,8 @@ class RefusedGrowths(Show):
             for auth in ("trust", "md5"):
                 made.append(Growths(self.program, library, auth, exact))
             if all(self.swept(*it) for it in self.sweeps(*made).items()):
-                self.causes(made[1])
+                for database in ("shop", OWN):
+                    self.causes(made[1], database)
                 ended = [it.pooler.shut() for it in made]
                 self.passes.same("the poolers end by SHUTDOWN: who arrived left, and each link that was lent came back or was lost", ended,
                                  ["", ""])

@@ -1,5 +1,5 @@
 -- Whose secret the server of a client's link is told (PgBouncer manual, "Section [databases]": user, password).
-use Rattle.std.specs.Prelude.{◌≡◌, ℕ, if◌then◌else◌, Option, None, Some, is_some, option_map}
+use Rattle.std.specs.Prelude.{if◌then◌else◌, Option, None, Some, is_some, option_map}
 use Rattle.message_view.specs.Bodies.{Text}
 use Rattle.ini_config.specs.declared.database_rows.DbRow.{DbRow}
 use Rattle.ini_config.specs.Tables.{row_for}

@@ -1,10 +1,12 @@
 //! How a client's time at the desk ends.
 ghost use Rattle.std.specs.Prelude.{◌≡◌};
 ghost use Rattle.pool_serve.specs.FinalMessages.{final_message_of};
+ghost use Rattle.pool_serve.specs.declared.ending.Ending.TheVariants as endings;
 
 use crate::final_message::FinalMessage;
 use link_start::start::StartCause;
 use message_view::Refusal;
+use std::alloc::AllocError;
 
 /// How a client's time at the desk ended, once it had arrived.
 #[derive(Drop)]
@@ -27,6 +29,14 @@ pub(crate) enum Ending {
     Relayed(Option<Refusal>),
     /// It was a client of the console, and its talk has ended, by this refusal or by none.
     Managed(Option<Refusal>),
+}
+
+impl From<AllocError> for Ending {
+    ghost from_gives = { λ _ ending. ending ≡ endings.Memory };
+
+    fn from(_error: AllocError) -> Ending {
+        Ending::Memory
+    }
 }
 
 impl Ending {

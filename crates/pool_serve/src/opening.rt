@@ -98,14 +98,10 @@ fn start_anew<D: LinkDesk, G: Gate<D::End>>(
     ensures why { IfErr result (λ e. IsUnopened D.home logged_in.now e) }
     ensures told { LetsIn D.home logged_in.now.login → IfErr result (λ e. MayEnd [] (owed D.home.catalogue logged_in.now [] []) (final_message_of e)) }
 {
-    let secret = match secret_of(alloc, logged_in) {
-        Ok(Some(secret)) => secret,
-        Ok(None) => return Err(Ending::Unreached),
-        Err(_) => return Err(Ending::Memory),
+    let Some(secret) = secret_of(alloc, logged_in)? else {
+        return Err(Ending::Unreached);
     };
-    let Ok(key) = Arc::try_clone(&logged_in.key) else {
-        return Err(Ending::Memory);
-    };
+    let key = Arc::try_clone(&logged_in.key)?;
     let revealed = logged_in.login.revealed();
     let credential = Credential::new(alloc, secret.get(), revealed, &logged_in.word, number);
     let Some(mut end) = desk.dial(number, &logged_in.key, &credential, seconds) else {
