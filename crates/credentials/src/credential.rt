@@ -6,10 +6,11 @@ ghost use Rattle.credentials.specs.Credentials.{answers_scram, credential_of, fi
 ghost use Rattle.credentials.specs.Exchanges.{exchange_by_key, exchange_of, exchange_over};
 
 use crate::exchange::Exchange;
-use crate::made::{KeptExchange, Made};
+use crate::made::Made;
 use bytes::BytesMut;
 use frame_view::client::PASSWORD_MESSAGE;
 use message_view::{KeyWord, put_message};
+use once_cell::race::OnceBox;
 use scram::client_messages::first_message;
 use scram::server_messages::{Challenge, nonce};
 use scram::{ClientKeys, Message, Verifier};
@@ -18,13 +19,13 @@ use std::marker::Model;
 use user_file::{Password, Secret};
 
 /// The secret by which a user is let in at a server, the client key that its client revealed of a verifier, and the nonce by which it asks
-/// for that by SCRAM. A start has a nonce of its own, and comes to one challenge: what a password made of that is kept where the credential
-/// was told, which contracts don't see.
+/// for that by SCRAM. A start has a nonce of its own, and comes to one challenge: what a password made of that is kept, which contracts
+/// don't see.
 pub struct Credential<'a> {
     secret: &'a Secret,
     revealed: Option<[u8; 32]>,
     nonce: [u8; 24],
-    kept: &'a KeptExchange,
+    made: OnceBox<Made>,
 }
 
 impl<'a> Drop for Credential<'a> {
@@ -33,7 +34,7 @@ impl<'a> Drop for Credential<'a> {
             secret: _,
             revealed: _,
             nonce: _,
-            kept: _,
+            made: _,
         } = self;
     }
 }
@@ -62,13 +63,13 @@ fn nonce_of(word: &KeyWord, number: u64) -> [u8; 24]
 
 impl<'a> Credential<'a> {
     /// The credential of a user with this secret, of which its client revealed this client key, for the start of a link of this number, for
-    /// a client with this key word; what a challenge comes to is kept there.
+    /// a client with this key word.
     pub fn new(
+        alloc: Global,
         secret: &'a Secret,
         revealed: Option<[u8; 32]>,
         word: &KeyWord,
         number: u64,
-        kept: &'a KeptExchange,
     ) -> Credential<'a>
         ensures { result ≡ credential_of secret.now revealed (start_nonce word.now number) }
     {
@@ -76,7 +77,7 @@ impl<'a> Credential<'a> {
             secret,
             revealed,
             nonce: nonce_of(word, number),
-            kept,
+            made: OnceBox::new(alloc),
         }
     }
 
@@ -115,7 +116,7 @@ impl<'a> Credential<'a> {
     fn made(&self, password: &[u8], challenge: &[u8]) -> Option<Exchange>
         ensures { IfSome result (λ e. exchange_over (Plain password.now) self.now.revealed self.now.nonce challenge.now ≡ Some e) }
     {
-        self.kept
+        self.made
             .get()?
             .exchange_of(password, &self.nonce, challenge)
     }
@@ -145,7 +146,7 @@ impl<'a> Credential<'a> {
             challenge,
             &exchange,
         ) {
-            self.kept.set(made);
+            let _ = self.made.set(made);
         }
         Ok(Some(exchange))
     }

@@ -5,7 +5,6 @@ ghost use Rattle.credentials.specs.Credentials.{credential_of};
 ghost use Rattle.credentials.specs.Exchanges.{exchange_of, made_of};
 
 use crate::exchange::Exchange;
-use once_cell::race::OnceBox;
 use std::alloc::{AllocError, Global};
 use std::marker::Model;
 use text_lines::Text;
@@ -76,36 +75,5 @@ impl Made {
             return None;
         }
         Some(self.exchange.copy())
-    }
-}
-
-/// What a password made of a server's challenge, kept from one turn of a start to the next: made anew at each, it would take a SCRAM-SHA-256
-/// its rounds each time. Contracts see nothing of it; what is in it is used for the challenge alone that it was made of.
-pub struct KeptExchange {
-    made: OnceBox<Made>,
-}
-
-impl Drop for KeptExchange {
-    fn drop(self) {
-        let KeptExchange { made: _ } = self;
-    }
-}
-
-impl KeptExchange {
-    /// Nothing yet. It takes no memory.
-    pub fn new(alloc: Global) -> KeptExchange {
-        KeptExchange {
-            made: OnceBox::new(alloc),
-        }
-    }
-
-    /// What is kept.
-    pub(crate) fn get(&self) -> Option<&Made> {
-        self.made.get()
-    }
-
-    /// Keeps this, where nothing was kept yet.
-    pub(crate) fn set(&self, made: Box<Made>) {
-        let _ = self.made.set(made);
     }
 }
