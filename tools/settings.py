@@ -24,7 +24,7 @@ CODE, PAIR, DEFINITION, MAN, EXAMPLE, CELL = 100, 60, 140, 78, 118, 300
 Block = collections.namedtuple("Block", "file path last lines stays", defaults=[False])
 
 
-# What there is in a file of its own, by the table: words of a line that are taken out or put in, which `changed` makes of the file's text.
+# What the table says within lines that are written by hand: `changed` makes the file's text of what it says there.
 Change = collections.namedtuple("Change", "file changed")
 
 

@@ -33,7 +33,7 @@ use std::sync::Arc;
 use std::test::Fail;
 use worker_parts::{CUT, TestRuntime, is_free, limits, login_by, visit, word};
 
-/// A desk where memory is refused whenever a client asks for a link. All else is as at the desk behind it.
+/// A desk where memory is refused whenever a client asks for a link. All else is as at the desk behind it, but that nobody waits for a place.
 #[derive(Drop)]
 struct Unasked<'a, D> {
     desk: &'a D,
