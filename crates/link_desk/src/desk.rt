@@ -45,7 +45,7 @@ pub trait LinkDesk {
 
     type End: ServerEnd;
 
-    type Pass;
+    type Pass: Drop;
 
     /// Where its links lead.
     ghost home: { HomeOf };

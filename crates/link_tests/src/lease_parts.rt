@@ -5,7 +5,7 @@ ghost use Rattle.frame_view.specs.declared.frames.TheConstants.{MAX_FRAME};
 ghost use Rattle.link_start.specs.Starts.{IsLinkKey};
 
 use bytes::BytesMut;
-use credentials::Credential;
+use credentials::{Credential, KeptExchange};
 use memory_ends::memory_server::{MemoryServer, ServerAuth};
 use memory_lease::alone::serve_alone;
 use message_view::KeyWord;
@@ -81,7 +81,8 @@ pub(crate) fn served(
     )?;
     // the server asks for nothing
     let unasked = Secret::Md5([0; 32]);
-    let credential = Credential::new(alloc, &unasked, None, &CLIENT, 0);
+    let kept = KeptExchange::new(alloc);
+    let credential = Credential::new(&unasked, None, &CLIENT, 0, &kept);
     match serve_alone(
         alloc,
         server,

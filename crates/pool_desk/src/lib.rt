@@ -7,7 +7,7 @@
 #![tactic(auto)]
 
 pub mod answers;
-mod bells;
+pub mod bells;
 pub mod desk;
 mod hearing;
 mod helping;

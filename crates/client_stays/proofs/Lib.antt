@@ -1,0 +1,14 @@
+pub mod Telling
+pub mod Causing
+pub mod Answering
+pub mod Homing
+pub mod Owing
+pub mod Logging
+pub mod Managing
+pub mod Giving
+pub mod Leases
+pub mod Again
+pub mod Linking
+pub mod Freeing
+pub mod Pumping
+pub mod Cancelling

@@ -1,0 +1,12 @@
+pub mod FinalMessages
+pub mod Shares
+pub mod Backs
+pub mod Causes
+pub mod Serving
+pub mod Places
+pub mod Endings
+pub mod Again
+pub mod Stays
+pub mod Cancels
+pub mod Secrets
+pub mod LinkSecrets
