@@ -274,7 +274,22 @@ impl<R: PoolRuntime, F: Source, K: Ledgers> Pool<R, F, K> {
         poll: &ManyPoll,
         place: usize,
     ) -> Option<Served<R, F, K>> {
-        let (word, mut client, visit) = comer.into_parts();
+        let (word, client, visit) = comer.into_parts();
+        self.served(rt, word, client, visit, poll, place)
+    }
+
+    /// The same, of its key word, its end, and what the log knows it by.
+    fn served(
+        &self,
+        rt: R,
+        word: KeyWord,
+        client: TcpEnd,
+        visit: Visit,
+        poll: &ManyPoll,
+        place: usize,
+    ) -> Option<Served<R, F, K>> {
+        let since = visit.since;
+        let mut client = client;
         let mut post = poll.post(&mut client, place).ok()?;
         let sight = client.sight().ok()?;
         let desk = Arc::try_clone(&self.desk).ok()?;
@@ -292,7 +307,8 @@ impl<R: PoolRuntime, F: Source, K: Ledgers> Pool<R, F, K> {
             users,
         } = arrival;
         let seconds = settings.client_login_timeout();
-        post.reckon_from(&rt, visit.since);
+        let serving = Serving::begin(pass, client, login, word, visit);
+        post.reckon_from(&rt, since);
         post.limit(&rt, some_time(seconds));
         let desk = WatchedDesk {
             rt,
@@ -307,7 +323,7 @@ impl<R: PoolRuntime, F: Source, K: Ledgers> Pool<R, F, K> {
             id,
             seconds,
             desk,
-            serving: Serving::begin(pass, client, login, word, visit),
+            serving,
             post,
         })
     }
@@ -322,6 +338,9 @@ impl<R: PoolRuntime, F: Source, K: Ledgers> Pool<R, F, K> {
     #[inline(never)]
     pub(crate) fn finish(&self, rt: R, served: Served<R, F, K>) {
         let (id, seconds, desk, serving, _) = served.into_parts();
+        let mut serving = serving;
+        // nothing is left to be done of one that is over
+        serving.stop(&desk, &mut OpenGate::new(), &mut None);
         let (_, pass) = serving.finish();
         self.give_back(&rt, FreePass { pass });
         if !desk.seat.is_known() && desk.seat.is_late(&rt, seconds) {
