@@ -35,9 +35,8 @@ LANES = 6
 # seconds: a start is given up after server_connect_timeout, which is 15; a reset after 600 turns of 100 ms without a byte
 GIVEN_UP = (14, 120)
 SLOWEST = 5.0
-# at rest: who starts threads, who accepts, two loops, the clock, the log, who derives keys, and those that wait for a client; others end
-# after ten seconds
-MAX_THREADS = 7 + 8
+# at rest: who accepts, the clock, the log, who derives keys, and those that wait for a connection; others end after ten seconds
+MAX_THREADS = 4 + 8
 # its memory has at most so many parts after thousands of threads; each that was never joined would keep two
 MAX_MAPS = 1_500
 REST = 0.002

@@ -51,8 +51,8 @@ ASKED = GIVEN["md5"][:9]
 TALK = [query("SHOW application_name"), query("CREATE TEMP TABLE t (a text)"), query("SET application_name TO 'x'"),
         query("SELECT name FROM city")]
 CONSOLE = [query(text) for text in ("SHOW CONFIG", "SHOW POOLS", "RELOAD", "SHOW DATABASES")]
-# at rest: who starts threads, who accepts, two loops, the clock, the log, who derives keys, and those that wait for a client
-MAX_THREADS = 7 + 8
+# at rest: who accepts, the clock, the log, who derives keys, and those that wait for a connection
+MAX_THREADS = 4 + 8
 
 
 class Counted(Page):

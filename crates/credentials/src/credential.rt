@@ -6,10 +6,11 @@ ghost use Rattle.credentials.specs.Credentials.{answers_scram, credential_of, fi
 ghost use Rattle.credentials.specs.Exchanges.{exchange_by_key, exchange_of, exchange_over};
 
 use crate::exchange::Exchange;
-use crate::made::{KeptExchange, Made};
+use crate::made::Made;
 use bytes::BytesMut;
 use frame_view::client::PASSWORD_MESSAGE;
 use message_view::{KeyWord, put_message};
+use once_cell::race::OnceBox;
 use scram::client_messages::first_message;
 use scram::server_messages::{Challenge, nonce};
 use scram::{ClientKeys, Message, Verifier};
@@ -18,13 +19,13 @@ use std::marker::Model;
 use user_file::{Password, Secret};
 
 /// The secret by which a user is let in at a server, the client key that its client revealed of a verifier, and the nonce by which it asks
-/// for that by SCRAM. A start has a nonce of its own, and comes to one challenge: what a password made of that is kept where the credential
-/// was told, which contracts don't see.
+/// for that by SCRAM. A start has a nonce of its own, and comes to one challenge: what a password made of that is kept, which contracts
+/// don't see.
 pub struct Credential<'a> {
     secret: &'a Secret,
     revealed: Option<[u8; 32]>,
     nonce: [u8; 24],
-    kept: &'a KeptExchange,
+    made: OnceBox<Made>,
 }
 
 impl<'a> Drop for Credential<'a> {
@@ -33,7 +34,7 @@ impl<'a> Drop for Credential<'a> {
             secret: _,
             revealed: _,
             nonce: _,
-            kept: _,
+            made: _,
         } = self;
     }
 }
@@ -62,13 +63,13 @@ fn nonce_of(word: &KeyWord, number: u64) -> [u8; 24]
 
 impl<'a> Credential<'a> {
     /// The credential of a user with this secret, of which its client revealed this client key, for the start of a link of this number, for
-    /// a client with this key word; what a challenge comes to is kept there.
+    /// a client with this key word.
     pub fn new(
+        alloc: Global,
         secret: &'a Secret,
         revealed: Option<[u8; 32]>,
         word: &KeyWord,
         number: u64,
-        kept: &'a KeptExchange,
     ) -> Credential<'a>
         ensures { result ≡ credential_of secret.now revealed (start_nonce word.now number) }
     {
@@ -76,7 +77,7 @@ impl<'a> Credential<'a> {
             secret,
             revealed,
             nonce: nonce_of(word, number),
-            kept,
+            made: OnceBox::new(alloc),
         }
     }
 
@@ -110,15 +111,14 @@ impl<'a> Credential<'a> {
         put_message(out, PASSWORD_MESSAGE, &[b"SCRAM-SHA-256\0", &length, text])
     }
 
-    /// What was made of this challenge, if it was kept. The only error is out of memory.
+    /// What was made of this challenge, if it was kept.
     #[tactic(auto, unfolding(crate::specs::Exchanges::exchange_of))]
-    fn made(&self, password: &[u8], challenge: &[u8]) -> Result<Option<Exchange>, AllocError>
-        ensures { IfOk result (λ made. IfSome made (λ e. exchange_over (Plain password.now) self.now.revealed self.now.nonce challenge.now ≡ Some e)) }
+    fn made(&self, password: &[u8], challenge: &[u8]) -> Option<Exchange>
+        ensures { IfSome result (λ e. exchange_over (Plain password.now) self.now.revealed self.now.nonce challenge.now ≡ Some e) }
     {
-        match self.kept.get() {
-            Some(made) => made.exchange_of(password, &self.nonce, challenge),
-            None => Ok(None),
-        }
+        self.made
+            .get()?
+            .exchange_of(password, &self.nonce, challenge)
     }
 
     /// What a password makes of a challenge. It is made at the first call, and kept.
@@ -131,14 +131,14 @@ impl<'a> Credential<'a> {
     ) -> Result<Option<Exchange>, AllocError>
         ensures { IfOk result (λ o. o ≡ exchange_over (Plain password.now) self.now.revealed self.now.nonce challenge.now) }
     {
-        if let Some(made) = self.made(password.as_bytes(), challenge)? {
+        if let Some(made) = self.made(password.as_bytes(), challenge) {
             return Ok(Some(made));
         }
         let Some(read) = Challenge::read(alloc, &self.nonce, challenge)? else {
             return Ok(None);
         };
         let keys = ClientKeys::of(&password.salted(alloc, &read.salt, read.rounds)?);
-        let exchange = Exchange::of(alloc, &keys, &self.nonce, challenge, read.nonce)?;
+        let exchange = Exchange::of(&keys, &self.nonce, challenge, read.nonce);
         if let Ok(made) = Made::new(
             alloc,
             password.as_bytes(),
@@ -146,7 +146,7 @@ impl<'a> Credential<'a> {
             challenge,
             &exchange,
         ) {
-            self.kept.set(made);
+            let _ = self.made.set(made);
         }
         Ok(Some(exchange))
     }
@@ -173,8 +173,7 @@ impl<'a> Credential<'a> {
             client,
             server: verifier.keys.server,
         };
-        let exchange = Exchange::of(alloc, &keys, &self.nonce, challenge, read.nonce)?;
-        Ok(Some(exchange))
+        Ok(Some(Exchange::of(&keys, &self.nonce, challenge, read.nonce)))
     }
 
     /// What it makes of a server's challenge, by its text; none where it answers no SCRAM, where the text is no challenge to its nonce

@@ -1,5 +1,5 @@
 //! What a password makes of a challenge.
-ghost use Rattle.std.specs.Prelude.{◌≡◌, ◌≤◌, IfOk, bytes_eq, length};
+ghost use Rattle.std.specs.Prelude.{◌≡◌, ◌≤◌, bytes_eq, length};
 ghost use Rattle.message_view.specs.Messages.{message};
 ghost use Rattle.message_view.specs.Parts.{Puts};
 ghost use Rattle.frame_view.specs.declared.client.TheConstants.{PASSWORD_MESSAGE};
@@ -12,71 +12,59 @@ use message_view::put_message;
 use scram::client_messages::{first_message, last_message, last_unproved};
 use scram::server_messages::final_message;
 use scram::{ClientKeys, Message};
-use std::alloc::{AllocError, Global};
+use std::alloc::AllocError;
 use std::marker::Model;
-use std::sync::Arc;
 
-/// The texts of an exchange.
-#[derive(Drop)]
-struct Texts {
+/// The answer to a server's challenge, and the server's own proof, which has to follow. Contracts see both texts.
+pub struct Exchange {
     last: Message,
     proof: Message,
 }
 
-/// The answer to a server's challenge, and the server's own proof, which has to follow. Contracts see both texts, which lie in memory of
-/// their own: they are large, and it stands in what tells why a link wasn't started.
-pub struct Exchange {
-    texts: Arc<Texts>,
-}
-
 impl Drop for Exchange {
     fn drop(self) {
-        let Exchange { texts: _ } = self;
+        let Exchange { last: _, proof: _ } = self;
     }
 }
 
 impl Model for Exchange {
-    ghost use Rattle.std.specs.Arc.{arc_value};
     ghost use Rattle.scram.specs.Short.{text_of};
     ghost use Rattle.credentials.specs.Exchanges.{ExchangeOf};
 
     ghost Value = { ExchangeOf };
 
-    ghost view = { λ e. record { last = text_of (arc_value e.texts).last; proof = text_of (arc_value e.texts).proof } };
+    ghost view = { λ e. record { last = text_of e.last; proof = text_of e.proof } };
 }
 
 impl Exchange {
-    /// That of these keys, of a client with this nonce, over this challenge, whose nonce is that of both. The only error is out of memory.
+    /// That of these keys, of a client with this nonce, over this challenge, whose nonce is that of both.
     pub(crate) fn of(
-        alloc: Global,
         keys: &ClientKeys,
         nonce: &[u8; 24],
         challenge: &[u8],
         joint: &[u8],
-    ) -> Result<Exchange, AllocError>
+    ) -> Exchange
         requires { length joint.now ≤ MAX_JOINT_NONCE }
-        ensures { IfOk result (λ e. e ≡ exchange_by keys.now nonce.now challenge.now joint.now) }
+        ensures { result ≡ exchange_by keys.now nonce.now challenge.now joint.now }
     {
         let first = first_message(nonce);
         let bare = &first.as_bytes()[3..];
         let unproved = last_unproved(joint);
         let proof = keys.proof(bare, challenge, unproved.as_bytes());
-        let texts = Texts {
+        Exchange {
             last: last_message(joint, &proof),
             proof: final_message(&keys.server, bare, challenge, unproved.as_bytes()),
-        };
-        Ok(Exchange {
-            texts: Arc::new(alloc, texts)?,
-        })
+        }
     }
 
-    /// The same once more, in the same memory. The only error is out of memory.
-    pub(crate) fn share(&self) -> Result<Exchange, AllocError>
-        ensures { IfOk result (λ e. e ≡ self.now) }
+    /// The same once more.
+    pub(crate) fn copy(&self) -> Exchange
+        ensures { result ≡ self.now }
     {
-        Ok(Exchange {
-            texts: Arc::try_clone(&self.texts)?,
-        })
+        Exchange {
+            last: self.last,
+            proof: self.proof,
+        }
     }
 
     /// Puts the SASLResponse with the client's last message.
@@ -85,13 +73,13 @@ impl Exchange {
     pub fn put_last(&self, out: &mut BytesMut) -> Result<(), AllocError>
         ensures { Puts result out.old out.new (message PASSWORD_MESSAGE self.now.last) }
     {
-        put_message(out, PASSWORD_MESSAGE, &[self.texts.last.as_bytes()])
+        put_message(out, PASSWORD_MESSAGE, &[self.last.as_bytes()])
     }
 
     /// Whether this text is the server's proof that it knows the password too.
     pub fn is_proved_by(&self, text: &[u8]) -> bool
         ensures { result ≡ bytes_eq text.now self.now.proof }
     {
-        text == self.texts.proof.as_bytes()
+        text == self.proof.as_bytes()
     }
 }

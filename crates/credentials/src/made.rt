@@ -5,7 +5,6 @@ ghost use Rattle.credentials.specs.Credentials.{credential_of};
 ghost use Rattle.credentials.specs.Exchanges.{exchange_of, made_of};
 
 use crate::exchange::Exchange;
-use once_cell::race::OnceBox;
 use std::alloc::{AllocError, Global};
 use std::marker::Model;
 use text_lines::Text;
@@ -55,57 +54,26 @@ impl Made {
             password: Text::copy(alloc, password)?,
             nonce: *nonce,
             challenge: Text::copy(alloc, challenge)?,
-            exchange: exchange.share()?,
+            exchange: exchange.copy(),
         };
         Ok(Box::new(alloc, made)?)
     }
 
-    /// The exchange, if it was made of these. The only error is out of memory.
+    /// The exchange, if it was made of these.
     pub(crate) fn exchange_of(
         &self,
         password: &[u8],
         nonce: &[u8; 24],
         challenge: &[u8],
-    ) -> Result<Option<Exchange>, AllocError>
-        ensures { IfOk result (λ made. IfSome made (λ e. exchange_of (credential_of (Plain password.now) None nonce.now) challenge.now ≡ Some e)) }
+    ) -> Option<Exchange>
+        ensures { IfSome result (λ e. exchange_of (credential_of (Plain password.now) None nonce.now) challenge.now ≡ Some e) }
     {
         if self.password.as_bytes() != password || self.challenge.as_bytes() != challenge {
-            return Ok(None);
+            return None;
         }
         if self.nonce.as_slice() != nonce.as_slice() {
-            return Ok(None);
+            return None;
         }
-        Ok(Some(self.exchange.share()?))
-    }
-}
-
-/// What a password made of a server's challenge, kept from one turn of a start to the next: made anew at each, it would take a SCRAM-SHA-256
-/// its rounds each time. Contracts see nothing of it; what is in it is used for the challenge alone that it was made of.
-pub struct KeptExchange {
-    made: OnceBox<Made>,
-}
-
-impl Drop for KeptExchange {
-    fn drop(self) {
-        let KeptExchange { made: _ } = self;
-    }
-}
-
-impl KeptExchange {
-    /// Nothing yet. It takes no memory.
-    pub fn new(alloc: Global) -> KeptExchange {
-        KeptExchange {
-            made: OnceBox::new(alloc),
-        }
-    }
-
-    /// What is kept.
-    pub(crate) fn get(&self) -> Option<&Made> {
-        self.made.get()
-    }
-
-    /// Keeps this, where nothing was kept yet.
-    pub(crate) fn set(&self, made: Box<Made>) {
-        let _ = self.made.set(made);
+        Some(self.exchange.copy())
     }
 }

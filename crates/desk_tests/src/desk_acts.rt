@@ -232,15 +232,11 @@ fn takes_once<R: Wait + Clock, K: Ledgers>(desk: &TestDesk<R, K>, pass: &mut Pas
     }
 }
 
-/// The same, until the client needn't wait any longer: behind each call in vain it waits for its bell, for at most a second.
+/// The same, until the client needn't wait any longer; each call waits for at most a second.
 fn takes<R: Wait + Clock, K: Ledgers>(desk: &TestDesk<R, K>, pass: &mut Pass<K>) -> Says {
-    let Some(client) = pass.holder().client else {
-        return Says::Nobody;
-    };
     for _ in 0..60u32 {
-        let heard = desk.outside().times_rung(client);
         match takes_once(desk, pass) {
-            Says::Waits => desk.outside().await_bell(client, heard),
+            Says::Waits => {}
             says => return says,
         }
     }

@@ -63,7 +63,7 @@ fn are_shown(seen: &[DecisionSeen]) -> bool {
 }
 
 /// What a desk shows behind these steps.
-fn seen_behind<R: Wait + Clock + Copy + Drop, K: Ledgers>(
+fn seen_behind<R: Wait + Clock + Drop, K: Ledgers>(
     rt: R,
     alloc: Global,
     blanks: Blanks,
@@ -73,7 +73,7 @@ fn seen_behind<R: Wait + Clock + Copy + Drop, K: Ledgers>(
     requires all { parts_of blanks ≡ of_each ALL_PARTS }
 {
     let limits = limits(alloc, Settings::Default)?;
-    let desk = Desk::<R, Nowhere<R>, K>::new(rt, alloc, Nowhere::new(rt, alloc)?, limits, blanks)?;
+    let desk = Desk::<R, Nowhere, K>::new(rt, alloc, Nowhere::new(alloc)?, limits, blanks)?;
     let _first = desk.pass().ok_or("no pass")?;
     let mut pass = desk.pass().ok_or("no pass")?;
     for (act, says) in &STEPS {

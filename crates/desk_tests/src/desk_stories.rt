@@ -558,7 +558,7 @@ fn story_at(at: usize) -> Option<Story> {
 }
 
 /// So many passes of a desk.
-pub(crate) fn passes_of<R: Wait + Clock + Copy, K: Ledgers>(
+pub(crate) fn passes_of<R: Wait + Clock, K: Ledgers>(
     alloc: Global,
     desk: &TestDesk<R, K>,
     count: usize,
@@ -572,7 +572,7 @@ pub(crate) fn passes_of<R: Wait + Clock + Copy, K: Ledgers>(
 }
 
 /// The first step that the desk answers otherwise than told: its place, and the answer.
-fn surprise<R: Wait + Clock + Copy, K: Ledgers>(
+fn surprise<R: Wait + Clock, K: Ledgers>(
     alloc: Global,
     desk: &TestDesk<R, K>,
     passes: &mut [Pass<K>],
@@ -591,7 +591,7 @@ fn surprise<R: Wait + Clock + Copy, K: Ledgers>(
 }
 
 /// Whether the desk shows these rows, whoever looks.
-fn shows_all<R: Wait + Clock + Copy, K: Ledgers>(
+fn shows_all<R: Wait + Clock, K: Ledgers>(
     alloc: Global,
     desk: &TestDesk<R, K>,
     passes: &mut [Pass<K>],
@@ -606,7 +606,7 @@ fn shows_all<R: Wait + Clock + Copy, K: Ledgers>(
 }
 
 /// Where a desk departs from a story first.
-fn departure_from<R: Wait + Clock + Copy + Drop, K: Ledgers>(
+fn departure_from<R: Wait + Clock + Drop, K: Ledgers>(
     rt: R,
     alloc: Global,
     blanks: Blanks,
@@ -617,7 +617,7 @@ fn departure_from<R: Wait + Clock + Copy + Drop, K: Ledgers>(
     requires all { parts_of blanks ≡ of_each ALL_PARTS }
 {
     let limits = limits(alloc, story.settings)?;
-    let desk = Desk::<R, Nowhere<R>, K>::new(rt, alloc, Nowhere::new(rt, alloc)?, limits, blanks)?;
+    let desk = Desk::<R, Nowhere, K>::new(rt, alloc, Nowhere::new(alloc)?, limits, blanks)?;
     let mut passes = passes_of(alloc, &desk, story.passes)?;
     if let Some((at, says)) = surprise(alloc, &desk, passes.as_mut_slice(), story.steps)? {
         return Ok(Some(Departure::Answer(at, says)));
@@ -633,7 +633,7 @@ fn departure_from<R: Wait + Clock + Copy + Drop, K: Ledgers>(
 }
 
 /// The same, at new ledgers.
-fn told_otherwise<R: Wait + Clock + Copy + Drop>(
+fn told_otherwise<R: Wait + Clock + Drop>(
     rt: R,
     alloc: Global,
     story: &Story,
@@ -656,7 +656,7 @@ fn each_story_goes_as_told(rt: HostRuntime) -> Result<(), Fail> {
 }
 
 /// What a desk answers to so many of its passes, of which one was used; and then to all of them.
-fn gathers<R: Wait + Clock + Copy + Drop, K: Ledgers>(
+fn gathers<R: Wait + Clock + Drop, K: Ledgers>(
     rt: R,
     alloc: Global,
     blanks: Blanks,
@@ -666,7 +666,7 @@ fn gathers<R: Wait + Clock + Copy + Drop, K: Ledgers>(
     requires all { parts_of blanks ≡ of_each ALL_PARTS }
 {
     let limits = limits(alloc, Settings::Default)?;
-    let desk = Desk::<R, Nowhere<R>, K>::new(rt, alloc, Nowhere::new(rt, alloc)?, limits, blanks)?;
+    let desk = Desk::<R, Nowhere, K>::new(rt, alloc, Nowhere::new(alloc)?, limits, blanks)?;
     let mut passes = passes_of(alloc, &desk, 3)?;
     let mut last = passes.pop().ok_or("no pass")?;
     answer(alloc, &desk, &mut last, Act::Come)?;

@@ -36,7 +36,7 @@ static STEPS: [(Act, Says, (u64, u64)); 15] = [
 ];
 
 /// The place of the first step after which the desk answers otherwise, or other links were minded.
-fn departure<R: Wait + Clock + Copy + Drop, K: Ledgers>(
+fn departure<R: Wait + Clock + Drop, K: Ledgers>(
     rt: R,
     alloc: Global,
     blanks: Blanks,
@@ -45,10 +45,10 @@ fn departure<R: Wait + Clock + Copy + Drop, K: Ledgers>(
     requires parts { K.parts ≡ parts_of blanks }
     requires all { parts_of blanks ≡ of_each ALL_PARTS }
 {
-    let nowhere = Nowhere::new(rt, alloc)?;
+    let nowhere = Nowhere::new(alloc)?;
     let links = nowhere.links()?;
     let limits = limits(alloc, Settings::Default)?;
-    let desk = Desk::<R, Nowhere<R>, K>::new(rt, alloc, nowhere, limits, blanks)?;
+    let desk = Desk::<R, Nowhere, K>::new(rt, alloc, nowhere, limits, blanks)?;
     let mut pass = desk.pass().ok_or("no pass")?;
     for (at, (act, says, counts)) in STEPS.iter().enumerate() {
         let told = answer(alloc, &desk, &mut pass, *act)?;

@@ -421,7 +421,7 @@ fn waits_at<R: TestRuntime, K: Ledgers + Send + Sync>(
     requires all { parts_of blanks ≡ of_each ALL_PARTS }
 {
     let limits = limits(alloc, settings(wait))?;
-    let desk = Desk::<R, Nowhere<R>, K>::new(rt, alloc, Nowhere::new(rt, alloc)?, limits, blanks)?;
+    let desk = Desk::<R, Nowhere, K>::new(rt, alloc, Nowhere::new(alloc)?, limits, blanks)?;
     let (mut first, mut second, mut third, mut fourth) = four_passes(&desk).ok_or("no pass")?;
     let waits = waits(
         rt,

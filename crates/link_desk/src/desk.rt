@@ -45,7 +45,7 @@ pub trait LinkDesk {
 
     type End: ServerEnd;
 
-    type Pass: Drop;
+    type Pass;
 
     /// Where its links lead.
     ghost home: { HomeOf };

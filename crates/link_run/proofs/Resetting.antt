@@ -117,25 +117,22 @@ ends_by start v now turns cause x d e = ⊎_elim
 pub other_by : (start : Standing) (v : ResetView) (now : Standing) (turns : ℕ) → IsResetFrom start v → now ≡ v.link → IsOther v.unsent v.received → IsDisturbed start v.link → FailsBy v.reports start now turns Unexpected
 other_by start v now turns x same o d = (heard_now start v now (IsUnexpected v.reports) x same (inl o), subst (λ (l : Standing). IsDisturbed start l) (sym same) d)
 
-all_is : (a : Answered) → a ≡ All → (a ≡ Nothing) ⊎ (a ≡ Tag) → ⊥
-all_is a e (inl n) = let z : All ≡ Nothing = sym e ∙ n in cc
-all_is a e (inr n) = let z : All ≡ Tag = sym e ∙ n in cc
+-- a read that came to something is the last
+pub paced_to_end : (start old now : Standing) (v w : ResetView) (counter then_at now_at : ℕ) → IsUnfinished v.received → IsAnsweredReset w → ReadsOnce v w → v.link.read_waits ≤ start.read_waits + counter → w.link.write_waits ≤ start.write_waits + (counter + 1) → now_at ≡ then_at + (counter + 1)
+    → now ≡ w.link → IsPacedToEnd start now then_at now_at
+paced_to_end start old now v w counter then_at now_at u d o r wr t same =
+    let n : w.link.read_waits ≤ v.link.read_waits = ⊎_elim (λ s. absurd (not_all v w u d s.0)) (λ e. omega (arith, e)) o in
+    record {
+      writes = (let e = ap (λ (l : Standing). l.write_waits) same in omega (arith, e, wr, t));
+      reads = (let e = ap (λ (l : Standing). l.read_waits) same in omega (arith, e, n, r, t));
+    }
+  where
+    all_is : (a : Answered) → a ≡ All → (a ≡ Nothing) ⊎ (a ≡ Tag) → ⊥
+    all_is a e (inl n) = let z : All ≡ Nothing = sym e ∙ n in cc
+    all_is a e (inr n) = let z : All ≡ Tag = sym e ∙ n in cc
 
-not_all : (v w : ResetView) → IsUnfinished v.received → IsAnsweredReset w → w.received ≡ v.received → ⊥
-not_all v w u d s = all_is (reads (answer_in v.received)) (ap (λ (b : List ℕ). reads (answer_in b)) (sym s) ∙ reads_all w d) u
-
--- the read that makes the answer whole came to something
-pub read_last : (v w : ResetView) → IsUnfinished v.received → IsAnsweredReset w → ReadsOnce v w → w.link.read_waits ≡ v.link.read_waits
-read_last v w u d (inl s) = absurd (not_all v w u d s.0)
-read_last v w u d (inr e) = e
-
--- a link that was made clean: the turns that were taken, and those that came to nothing
-pub paced_to_end : (start now : Standing) (v w : ResetView) (counter then_at now_at : ℕ) → w.link.read_waits ≡ v.link.read_waits → v.link.read_waits ≤ start.read_waits + counter → w.link.write_waits ≤ start.write_waits + (counter + 1) → now_at ≡ then_at + (counter + 1) → now ≡ w.link
-    → IsPacedToEnd start now then_at now_at
-paced_to_end start now v w counter then_at now_at n r wr t same = record {
-  writes = (let e = ap (λ (l : Standing). l.write_waits) same in omega (arith, e, wr, t));
-  reads = (let e = ap (λ (l : Standing). l.read_waits) same in omega (arith, e, n, r, t));
-}
+    not_all : (v w : ResetView) → IsUnfinished v.received → IsAnsweredReset w → w.received ≡ v.received → ⊥
+    not_all v w u d s = all_is (reads (answer_in v.received)) (ap (λ (b : List ℕ). reads (answer_in b)) (sym s) ∙ reads_all w d) u
 
 -- ---- the session behind it
 

@@ -2,7 +2,7 @@
 ghost use Rattle.std.specs.Prelude.{◌≡◌, ◌≢◌, ◌+◌, ◌<◌, ◌≤◌, ◌⊎◌, false, true, IfErr, IfOk};
 ghost use Rattle.param_track.specs.KeptReports.{is_at_start};
 ghost use Rattle.link_run.specs.Dialogues.{IsResetDialogue};
-ghost use Rattle.link_run.specs.Resets.{EndsDialogue, FailsAtEnd, FailsBy, IsAnsweredReset, IsDisturbedReset, IsOther, IsPaced, IsPacedToEnd, IsResetFrom, IsUnfinished, KeepsReset, MoveFailsBy, ReadsOnce, TurnFailsBy, is_over, read_so_far};
+ghost use Rattle.link_run.specs.Resets.{EndsDialogue, FailsAtEnd, FailsBy, IsAnsweredReset, IsDisturbedReset, IsOther, IsPaced, IsPacedToEnd, IsResetFrom, IsUnfinished, KeepsReset, MoveFailsBy, ReadsOnce, is_over, read_so_far};
 ghost use Rattle.link_run.specs.declared.reset.ResetError.TheVariants.{Lost};
 ghost use Rattle.link_run.specs.declared.reply.Answered.TheVariants.{All, Nothing, Other, Tag};
 
@@ -43,11 +43,8 @@ pub struct Disposed<E: ServerEnd> {
     pub cause: ResetError,
 }
 
-/// A used link that is being reset, turn by turn: how much of the Query was sent, and all that was answered.
-///
-/// Contracts see the link, and the bytes that are unsent and that came. Whoever drives it waits between two turns, and gives it up by the
-/// cause Turns where it waits no longer: no turn fails by that.
-pub struct Reset<E: ServerEnd> {
+/// A link that is being reset: how much of the Query was sent, and all that was answered.
+struct Reset<E: ServerEnd> {
     link: LinkParts<E>,
     sent: usize,
     reply: BytesMut,
@@ -89,8 +86,7 @@ fn moved_on(moved: Moved) -> Result<(), ResetError>
 }
 
 impl<E: ServerEnd> Reset<E> {
-    /// A reset of this link, of whose Query nothing was sent yet.
-    pub fn begin(alloc: Global, used: UsedLink<E>) -> Reset<E>
+    fn begin(alloc: Global, used: UsedLink<E>) -> Reset<E>
         ensures key { result.key ≡ used.key }
         ensures number { result.number ≡ used.number }
         ensures started_at { result.started_at ≡ used.started_at }
@@ -170,43 +166,8 @@ impl<E: ServerEnd> Reset<E> {
         answered
     }
 
-    /// At most one write and then one read; whether the whole answer came. It waits for nobody, and isn't to be called again behind that, nor
-    /// once it has failed.
-    ///
-    /// It fails by Lost once the end has faulted or ended, by Memory where there was no room for what is to be read, and by Unexpected as soon
-    /// as something else came. It never fails by Changed, nor by Turns.
-    pub fn turn(&mut self) -> Result<bool, ResetError>
-        requires { IsUnfinished self.old.received }
-        ensures key { self.new.key ≡ self.old.key }
-        ensures number { self.new.number ≡ self.old.number }
-        ensures started_at { self.new.started_at ≡ self.old.started_at }
-        ensures server_key { self.new.server_key ≡ self.old.server_key }
-        ensures reports { self.new.reports ≡ self.old.reports }
-        ensures keeps { KeepsReset self.old self.new }
-        ensures all { IfOk result (λ all. all ≡ true → IsAnsweredReset self.new) }
-        ensures waits { IfOk result (λ all. all ≡ false → IsUnfinished self.new.received) }
-        ensures reads { IfOk result (λ _. read_so_far self.old < read_so_far self.new) }
-        ensures last { IfOk result (λ all. all ≡ true → self.new.link.read_waits ≡ self.old.link.read_waits) }
-        ensures writes { self.new.link.write_waits ≤ self.old.link.write_waits + 1 }
-        ensures once { self.new.link.read_waits ≤ self.old.link.read_waits + 1 }
-        ensures faults { IfErr result (TurnFailsBy self.old self.new) }
-    {
-        if let Err(cause) = self.send() {
-            return Err(cause);
-        }
-        if let Err(cause) = self.receive() {
-            return Err(cause);
-        }
-        match self.read() {
-            Answered::All => Ok(true),
-            Answered::Nothing | Answered::Tag => Ok(false),
-            Answered::Other => Err(ResetError::Unexpected),
-        }
-    }
-
-    /// The link, clean again, once the whole answer came. It fails by Unexpected where a report can't be read or is of a name that the start
-    /// didn't report, and by Changed where the values aren't those of the start; where its end follows it doesn't fail.
-    pub fn finish(self) -> Result<CleanLink<E>, Disposed<E>>
+    /// The link, clean again, once the whole answer came. Where its end follows this doesn't fail.
+    fn finish(self) -> Result<CleanLink<E>, Disposed<E>>
         requires { IsAnsweredReset self }
         ensures key { IfOk result (λ l. l.key ≡ self.key) }
         ensures number { IfOk result (λ l. l.number ≡ self.number) }
@@ -231,8 +192,7 @@ impl<E: ServerEnd> Reset<E> {
         Ok(link.clean())
     }
 
-    /// Gives it up, for this cause.
-    pub fn fail(self, cause: ResetError) -> Disposed<E>
+    fn fail(self, cause: ResetError) -> Disposed<E>
         ensures cause { result.cause ≡ cause }
         ensures stands { E.standing result.end ≡ self.link }
     {
@@ -288,13 +248,16 @@ pub fn reset_link<E: ServerEnd, G: Gate<E>>(
     let mut reset = Reset::begin(alloc, used);
     for _ in 0..turns {
         gate.turn_of_link();
-        match reset.turn() {
-            Ok(all) => {
-                if all {
-                    return reset.finish();
-                }
-            }
-            Err(cause) => return Err(reset.fail(cause)),
+        if let Err(cause) = reset.send() {
+            return Err(reset.fail(cause));
+        }
+        if let Err(cause) = reset.receive() {
+            return Err(reset.fail(cause));
+        }
+        match reset.read() {
+            Answered::All => return reset.finish(),
+            Answered::Nothing | Answered::Tag => {}
+            Answered::Other => return Err(reset.fail(ResetError::Unexpected)),
         }
     }
     Err(reset.fail(ResetError::Turns))

@@ -8,4 +8,4 @@ mod Keying
 mod Asking
 mod Telling
 mod Lengths
-pub mod Starting
+mod Starting

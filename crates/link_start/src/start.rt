@@ -135,11 +135,8 @@ pub struct StartLinkError<E: ServerEnd> {
     pub cause: StartCause,
 }
 
-/// A link that is being started over a server's end, turn by turn: what is to be sent, and how much of it was; and all that was answered.
-///
-/// Contracts see where the end stands, what the link is to be, how many questions were answered, and the bytes that are unsent and that came.
-/// Whoever drives it waits between two turns, and says by the causes Turns and Late that it waits no longer: no turn fails by these.
-pub struct Start<E: ServerEnd> {
+/// A link that is being started: what is to be sent, and how much of it was; and all that was answered.
+struct Start<E: ServerEnd> {
     end: E,
     key: Arc<StartKey>,
     number: u64,
@@ -177,14 +174,14 @@ impl<E: ServerEnd> Model for Start<E> {
     ghost invariant = { λ s. s.sent ≤ length s.messages.items };
 }
 
-/// What a turn of a start came to.
-#[derive(Clone, Copy, Drop)]
-pub enum Progress {
-    /// Nothing moved: wait until the link's end is ready.
+/// What a turn came to.
+#[derive(Clone, Copy)]
+enum Progress {
+    /// Nothing moved.
     Idle,
     /// Bytes moved, and more are to come.
     Moved,
-    /// The welcome is whole: the link is to be had by [`Start::finish`].
+    /// The welcome is whole.
     Ready,
 }
 
@@ -201,9 +198,7 @@ impl Progress {
 }
 
 impl<E: ServerEnd> Start<E> {
-    /// A start over this end, of which nothing was sent yet. The only error is Memory: the StartupMessage of the key couldn't be made, since
-    /// an allocation failed or the key has none of the greatest length. The end comes back then as it stood.
-    pub fn begin(
+    fn begin(
         alloc: Global,
         end: E,
         key: Arc<StartKey>,
@@ -234,13 +229,6 @@ impl<E: ServerEnd> Start<E> {
             sent: 0,
             reply: BytesMut::new(alloc),
         })
-    }
-
-    /// The number of the link that is to be.
-    pub fn number(&self) -> u64
-        ensures { result ≡ self.now.number }
-    {
-        self.number
     }
 
     /// Writes once, if something is left to be sent; whether bytes went.
@@ -406,16 +394,8 @@ impl<E: ServerEnd> Start<E> {
         }
     }
 
-    /// Writes at most once and, where all is sent, reads at most once. It waits for nobody, and isn't to be called once it has failed or
-    /// the welcome is whole.
-    ///
-    /// It fails by what came, or by the end: Refused, Unanswerable and Unexpected as soon as what came says so; Lost once the end has faulted
-    /// or ended; Memory where an allocation failed, before the read that it was for. It never fails by Turns or Late.
-    pub fn turn(
-        &mut self,
-        alloc: Global,
-        credential: &Credential<'_>,
-    ) -> Result<Progress, StartCause>
+    /// Writes at most once and, where all is sent, reads at most once.
+    fn turn(&mut self, alloc: Global, credential: &Credential<'_>) -> Result<Progress, StartCause>
         requires { IsWaitingStart credential.now self.old }
         ensures under_way { (b : Standing) → CanStart credential.now self.old.key.user b → IsLinkKey self.old.key → IsStartUnderWay b credential.now self.old → OnOk result (IsStartUnderWay b credential.now self.new) }
         ensures same { IsSameStart self.old self.new }
@@ -458,9 +438,8 @@ impl<E: ServerEnd> Start<E> {
         }
     }
 
-    /// The link, once its server's welcome is whole. It fails by Unexpected where a report or the server's key can't be read, or more than 64
-    /// names were reported, and by Memory where an allocation failed; the end comes back then.
-    pub fn finish(self, alloc: Global) -> Result<CleanLink<E>, StartLinkError<E>>
+    /// The link, once its server's welcome came.
+    fn finish(self, alloc: Global) -> Result<CleanLink<E>, StartLinkError<E>>
         requires { IsDone self }
         ensures started { (b : Standing) (c : CredentialOf) → IsDoneFrom b c self → IfOk result (λ l. IsStarted b c l) }
         ensures own_key { (b : Standing) (c : CredentialOf) → IsDoneFrom b c self → b.follows ≡ true → IfOk result (λ l. IsOwnKey b.server l.server_key) }
@@ -511,8 +490,7 @@ impl<E: ServerEnd> Start<E> {
         }
     }
 
-    /// Gives it up, for this cause.
-    pub fn fail(self, cause: StartCause) -> StartLinkError<E>
+    fn fail(self, cause: StartCause) -> StartLinkError<E>
         ensures end { E.standing result.end ≡ self.end }
         ensures cause { result.cause ≡ cause }
     {

@@ -1,6 +1,6 @@
 //! What a password, its digest, and its verifier with the client key, make of a server that asks for SCRAM. The answers are Python's, by its `hashlib` and `hmac`.
 use bytes::BytesMut;
-use credentials::{Credential, KeptExchange};
+use credentials::Credential;
 use message_view::KeyWord;
 use scram::Salt;
 use scram::keys::salted;
@@ -35,8 +35,7 @@ const CLIENT_KEY: [u8; 32] = [
 fn password_answers_a_challenge(rt: HostRuntime) -> Result<(), Fail> {
     let alloc = rt.alloc();
     let secret = Secret::read(alloc, b"pencil")?;
-    let kept = KeptExchange::new(alloc);
-    let credential = Credential::new(&secret, None, &WORD, 5, &kept);
+    let credential = Credential::new(alloc, &secret, None, &WORD, 5);
     assert!(rt; credential.answers_scram());
     let mut out = BytesMut::new(alloc);
     credential.put_first(&mut out)?;
@@ -57,8 +56,7 @@ fn password_answers_a_challenge(rt: HostRuntime) -> Result<(), Fail> {
 fn each_link_has_a_nonce_of_its_own(rt: HostRuntime) -> Result<(), Fail> {
     let alloc = rt.alloc();
     let secret = Secret::read(alloc, b"pencil")?;
-    let kept = KeptExchange::new(alloc);
-    let other = Credential::new(&secret, None, &WORD, 6, &kept);
+    let other = Credential::new(alloc, &secret, None, &WORD, 6);
     assert!(rt; other.exchange(alloc, CHALLENGE)?.is_none());
     Ok(())
 }
@@ -68,8 +66,7 @@ fn each_link_has_a_nonce_of_its_own(rt: HostRuntime) -> Result<(), Fail> {
 fn verifier_answers_by_its_client_key(rt: HostRuntime) -> Result<(), Fail> {
     let alloc = rt.alloc();
     let secret = Secret::read(alloc, VERIFIER)?;
-    let kept = KeptExchange::new(alloc);
-    let credential = Credential::new(&secret, Some(CLIENT_KEY), &WORD, 5, &kept);
+    let credential = Credential::new(alloc, &secret, Some(CLIENT_KEY), &WORD, 5);
     assert!(rt; credential.answers_scram());
     let Some(exchange) = credential.exchange(alloc, CHALLENGE)? else {
         return Err("no exchange")?;
@@ -91,8 +88,7 @@ fn verifier_answers_by_its_client_key(rt: HostRuntime) -> Result<(), Fail> {
 fn verifier_alone_answers_nothing(rt: HostRuntime) -> Result<(), Fail> {
     let alloc = rt.alloc();
     let secret = Secret::read(alloc, VERIFIER)?;
-    let kept = KeptExchange::new(alloc);
-    let credential = Credential::new(&secret, None, &WORD, 5, &kept);
+    let credential = Credential::new(alloc, &secret, None, &WORD, 5);
     assert!(rt; !credential.answers_scram());
     assert!(rt; credential.exchange(alloc, CHALLENGE)?.is_none());
     Ok(())
@@ -102,8 +98,7 @@ fn verifier_alone_answers_nothing(rt: HostRuntime) -> Result<(), Fail> {
 fn digest_answers_no_scram(rt: HostRuntime) -> Result<(), Fail> {
     let alloc = rt.alloc();
     let secret = Secret::Md5([b'0'; 32]);
-    let kept = KeptExchange::new(alloc);
-    let credential = Credential::new(&secret, None, &WORD, 5, &kept);
+    let credential = Credential::new(alloc, &secret, None, &WORD, 5);
     assert!(rt; !credential.answers_scram());
     assert!(rt; credential.exchange(alloc, CHALLENGE)?.is_none());
     assert!(rt; matches!(credential.secret(), Secret::Md5(_)));

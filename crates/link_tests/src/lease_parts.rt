@@ -5,7 +5,7 @@ ghost use Rattle.frame_view.specs.declared.frames.TheConstants.{MAX_FRAME};
 ghost use Rattle.link_start.specs.Starts.{IsLinkKey};
 
 use bytes::BytesMut;
-use credentials::{Credential, KeptExchange};
+use credentials::Credential;
 use memory_ends::memory_server::{MemoryServer, ServerAuth};
 use memory_lease::alone::serve_alone;
 use message_view::KeyWord;
@@ -81,8 +81,7 @@ pub(crate) fn served(
     )?;
     // the server asks for nothing
     let unasked = Secret::Md5([0; 32]);
-    let kept = KeptExchange::new(alloc);
-    let credential = Credential::new(&unasked, None, &CLIENT, 0, &kept);
+    let credential = Credential::new(alloc, &unasked, None, &CLIENT, 0);
     match serve_alone(
         alloc,
         server,

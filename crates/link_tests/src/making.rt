@@ -9,7 +9,7 @@ ghost use Rattle.memory_ends.specs.Failing.{failing_server};
 ghost use Rattle.memory_start_laws.specs.Starts.{HasSalt};
 ghost use Rattle.link_tests.specs.Keys.{ann_on};
 
-use credentials::{Credential, KeptExchange};
+use credentials::Credential;
 use link_run::links::CleanLink;
 use link_start::start::{StartCause, start_link};
 use memory_ends::failing_end::FailingEnd;
@@ -140,8 +140,7 @@ pub fn begin_by<E: ServerEnd, G: Gate<E>>(
     requires { CanStartAll (E.standing end) }
 {
     let secret = Secret::read(alloc, start.password)?;
-    let kept = KeptExchange::new(alloc);
-    let credential = Credential::new(&secret, None, &OWN, 5, &kept);
+    let credential = Credential::new(alloc, &secret, None, &OWN, 5);
     let key = key(alloc, start.is_there)?;
     match start_link(alloc, end, key, &credential, 5, 9, gate, start.turns) {
         Ok(link) => Ok(Ok(link)),

@@ -9,6 +9,7 @@ use link_run::links::CleanLink;
 use memory_ends::memory_client::MemoryClient;
 use memory_ends::memory_server::ServerAuth;
 use message_view::KeyWord;
+use relay_core::last_note::LastNote;
 use relay_core::relay::{GoneCause, Relay, Returned};
 use relay_model::Next;
 use server_end::ServerEnd;
@@ -100,11 +101,11 @@ fn counts(alloc: Global, messages: &[&[u8]]) -> Result<Counts, Fail> {
     counts_of(alloc, end, messages)
 }
 
-/// Whether this is kept of what a server that asks for nothing said, by these messages of its client.
-fn says_last(alloc: Global, messages: &[&[u8]], wanted: &[u8]) -> Result<bool, Fail> {
+/// What is kept of what a server that asks for nothing said, by these messages of its client.
+fn last_note(alloc: Global, messages: &[&[u8]]) -> Result<LastNote, Fail> {
     let end = server(alloc, ServerAuth::Trust, 1_000, None)?;
     let relay = pumped(alloc, link(alloc, end)?, 1_000, 1, messages)?;
-    Ok(relay.last_note().message() == wanted)
+    Ok(relay.last_note())
 }
 
 /// What becomes of the link, and whether the client was given these bytes last.
@@ -197,7 +198,7 @@ fn the_last_error_is_kept(rt: HostRuntime) -> Result<(), Fail> {
         (&[REFUSED, SYNC, SHOW], ERROR),
     ];
     for &(messages, wanted) in cases {
-        assert!(rt; says_last(rt.alloc(), messages, wanted)?);
+        assert!(rt; last_note(rt.alloc(), messages)?.message() == wanted);
     }
     Ok(())
 }

@@ -70,10 +70,6 @@ rows_of v = row_in v.settings v.users
 abbrev pub with_held : LoginView → List ℕ → LoginView
 with_held v held = revealing_view v.settings v.users v.word v.awaiting held v.revealed
 
--- it is over, and holds nothing
-abbrev pub closed : LoginView → LoginView
-closed v = revealing_view v.settings v.users v.word Over [] v.revealed
-
 -- a client has arrived and is to go on, by a key of the console's
 abbrev pub arrives_at_console : Rows → Awaiting → Bool
 arrives_at_console rows (Arriving key) = is_for_console (rows key.row key.user) key

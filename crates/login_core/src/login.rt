@@ -2,12 +2,11 @@
 ghost use Rattle.std.specs.Prelude.{◌≡◌, ◌<◌, ◌≤◌, ◌+◌, ◌++◌, [], length, take, min, IfOk, false, vec_capacity};
 ghost use Rattle.std.specs.Arc.{arc_value};
 ghost use Rattle.login_core.specs.Dialogue.{AtFirst};
-ghost use Rattle.login_core.specs.Logins.{ArrivesOnce, StepMeans, AwaitsPacket, Over, Reveals, arrives_at_console, awaiting_of, closed, login_view, missing, rows_of};
+ghost use Rattle.login_core.specs.Logins.{ArrivesOnce, StepMeans, AwaitsPacket, Over, Reveals, arrives_at_console, awaiting_of, login_view, missing, rows_of};
 ghost use Rattle.login_core.specs.declared.steps.LoginStep.TheVariants.{Left};
 
 use crate::dialogue::{FIRST_HEAD, MAX_MESSAGE, Place, Rules, note_unsupported};
 use crate::laws::packets_grow;
-use crate::passed::PassedLogin;
 use crate::steps::LoginStep;
 use ini_config::Settings;
 use message_view::KeyWord;
@@ -108,6 +107,17 @@ impl Login {
         &self.rules.users
     }
 
+    /// The client key that the client revealed of its user's verifier, once it was let in by a password or a proof: by it the client is let in
+    /// at each server that has the same verifier (RFC 5802, section 3). None of a secret that is no verifier.
+    pub fn revealed(&self) -> Option<[u8; 32]>
+        ensures { result ≡ self.now.revealed }
+    {
+        match &self.place {
+            Place::Over(revealed) => *revealed,
+            Place::First { .. } | Place::Arriving(_) | Place::Asked(_, _) => None,
+        }
+    }
+
     /// The name of the parameter for which the client was refused as [`message_view::Refusal::UnsupportedParameter`], as it was
     /// sent. None where it wasn't refused so, or where there was no memory for the name.
     pub fn unsupported_parameter(&self) -> Option<&[u8]> {
@@ -134,20 +144,6 @@ impl Login {
         ensures { result ≡ missing self.now.awaiting self.now.held }
     {
         self.lacking
-    }
-
-    /// What it leaves: its buffer is given up, with what it holds.
-    pub fn close(self) -> PassedLogin
-        ensures { result ≡ closed self }
-    {
-        let Login {
-            rules,
-            place,
-            held: _,
-            lacking: _,
-            unsupported: _,
-        } = self;
-        PassedLogin::new(rules, place)
     }
 
     /// Takes bytes of the client, never past the packet that it waits for, and tells how many, and what follows.

@@ -12,7 +12,7 @@ ghost use Rattle.memory_pool.specs.MemoryPools.{IsAtHome, IsBroughtHome, IsNewSe
 use crate::answers::{Answer, Taken};
 use book_model::events::{Beyond, Event};
 use book_model::settings::limits_of;
-use credentials::{Credential, KeptExchange};
+use credentials::Credential;
 use ini_config::Settings;
 use lease_book::book::Book;
 use lease_book::events::BookEvent::{GiveBack, Plain};
@@ -267,8 +267,7 @@ impl MemoryPool {
     {
         // the server asks for nothing
         let unasked = Secret::Md5([0; 32]);
-        let kept = KeptExchange::new(self.alloc);
-        let credential = Credential::new(&unasked, None, &SERVER_WORD, number, &kept);
+        let credential = Credential::new(self.alloc, &unasked, None, &SERVER_WORD, number);
         start_link(
             self.alloc,
             server,

@@ -7,7 +7,7 @@ use crate::ends::{has_ended, is_alive, reads_all, writes_all};
 use crate::lease::{LIMIT, TALK, pumped};
 use crate::making::{CUT, PASSWORD, key, server};
 use crate::told::{put_bytes, put_numbers, put_unless};
-use credentials::{Credential, KeptExchange};
+use credentials::Credential;
 use link_run::links::{CleanLink, UsedLink};
 use link_run::reset::{Disposed, ResetError, reset_link};
 use link_start::start::{StartCause, StartLinkError, start_link};
@@ -51,8 +51,7 @@ fn started<E: ServerEnd>(
     let Ok(secret) = Secret::read(alloc, PASSWORD) else {
         return Err(AllocError);
     };
-    let kept = KeptExchange::new(alloc);
-    let credential = Credential::new(&secret, None, &KEY_WORD, 5, &kept);
+    let credential = Credential::new(alloc, &secret, None, &KEY_WORD, 5);
     let key = key(alloc)?;
     match start_link(
         alloc,

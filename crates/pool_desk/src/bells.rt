@@ -1,6 +1,9 @@
-//! The bells of clients that wait. Nothing is proved of who wakes when.
-ghost use Rattle.std.specs.Prelude.{◌≡◌, ◌%◌, Some, slice_get, slice_set, true};
+//! Bells by which waiting clients are woken. Nothing is proved of who wakes when.
+ghost use Rattle.std.specs.Prelude.{◌≡◌, ◌%◌, slice_set, true, vec_len};
 ghost use Rattle.pool_desk.specs.declared.bells.TheConstants.{BELLS};
+
+use std::alloc::{AllocError, Global};
+use std::sync::Condvar;
 
 /// So many bells there are.
 pub const BELLS: u64 = 1024;
@@ -9,23 +12,48 @@ pub const BELLS: u64 = 1024;
 pub type Chosen = [bool; BELLS as usize];
 
 /// Chooses the bell of this client too.
-pub(crate) fn choose(chosen: &mut Chosen, client: u64)
+pub fn choose(chosen: &mut Chosen, client: u64)
     ensures { chosen.new ≡ slice_set chosen.old (client % BELLS) true }
 {
     chosen[(client % BELLS) as usize] = true;
 }
 
-/// Whose bell is to be rung. A client's is that of its number, modulo their number.
-#[derive(Clone, Copy, Drop)]
-pub enum Rung<'a> {
-    One(u64),
-    Chosen(&'a Chosen),
-    All,
+/// A client waits at the bell of its number, modulo their number.
+#[derive(Drop)]
+pub struct Bells {
+    bells: Vec<Condvar>,
+    ghost all: { vec_len bells ≡ BELLS },
 }
 
-/// Whether this client's bell is among those.
-pub fn is_chosen(chosen: &Chosen, client: u64) -> bool
-    ensures { slice_get chosen.now (client % BELLS) ≡ Some result }
-{
-    chosen[(client % BELLS) as usize]
+impl Bells {
+    /// `AllocError` where memory is refused.
+    pub fn new(alloc: Global) -> Result<Bells, AllocError> {
+        let mut bells = Vec::new(alloc);
+        bells.reserve(BELLS as usize)?;
+        for _ in 0..BELLS {
+            bells.push_reserved(Condvar::new());
+        }
+        Ok(Bells { bells })
+    }
+
+    /// The bell of this client.
+    pub fn of(&self, client: u64) -> &Condvar {
+        &self.bells[(client % BELLS) as usize]
+    }
+
+    /// Wakes those that wait at these bells.
+    pub fn ring(&self, chosen: &Chosen) {
+        for (bell, is_chosen) in self.bells.iter().zip(chosen) {
+            if *is_chosen {
+                bell.notify_all();
+            }
+        }
+    }
+
+    /// Wakes all that wait.
+    pub fn ring_all(&self) {
+        for bell in &self.bells {
+            bell.notify_all();
+        }
+    }
 }

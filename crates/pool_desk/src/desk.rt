@@ -19,7 +19,7 @@ ghost use Rattle.pool_desk.specs.Joined.{brought};
 ghost use Rattle.pool_desk.specs.Tells.{Tells};
 
 use crate::answers::{HungUp, Ticked};
-use crate::bells::Rung;
+use crate::bells::Bells;
 use crate::helping::Helps;
 use crate::inner::Core;
 use crate::minding::{granted, heeded};
@@ -48,13 +48,15 @@ use std::alloc::{AllocError, Global};
 use std::rt::Clock;
 use std::sync::{Arc, Mutex, MutexGuard, Wait};
 use std::time::{Duration, Instant};
+use time_limits::WAITING_LOOK;
 
-/// The lease book behind one lock, and what is reached outside. Each event is one hold of the lock,
+/// The lease book behind one lock, the bells of the clients that wait, and what is reached outside. Each event is one hold of the lock,
 /// in which no byte moves.
 pub struct Desk<R: Wait, S: Outside, K: Ledgers> {
     rt: R,
     outside: S,
     core: Mutex<Core<S, K>>,
+    bells: Bells,
 }
 
 impl<R: Wait + Drop, S: Outside + Drop, K: Ledgers> Drop for Desk<R, S, K> {
@@ -63,6 +65,7 @@ impl<R: Wait + Drop, S: Outside + Drop, K: Ledgers> Drop for Desk<R, S, K> {
             rt: _,
             outside: _,
             core: _,
+            bells: _,
         } = self;
     }
 }
@@ -82,11 +85,13 @@ impl<R: Wait + Drop, S: Outside + Drop, K: Ledgers> Desk<R, S, K> {
         requires parts { K.parts ≡ parts_of blanks }
         requires all { parts_of blanks ≡ of_each ALL_PARTS }
     {
+        let bells = Bells::new(alloc)?;
         let core = Core::new(alloc, limits, blanks)?;
         Ok(Desk {
             rt,
             outside,
             core: Mutex::new(core),
+            bells,
         })
     }
 
@@ -96,12 +101,22 @@ impl<R: Wait + Drop, S: Outside + Drop, K: Ledgers> Desk<R, S, K> {
         ensures sums { IfOk result (λ t. made_of t ≡ sum_over passes.items) }
         ensures back { IfErr result (λ e. e.1 ≡ passes) }
     {
-        let Desk { rt, outside, core } = self;
+        let Desk {
+            rt,
+            outside,
+            core,
+            bells,
+        } = self;
         match core.into_inner().gather(passes) {
             Ok(totals) => Ok(totals),
             Err((core, passes)) => {
                 let core = Mutex::new(core);
-                let desk = Desk { rt, outside, core };
+                let desk = Desk {
+                    rt,
+                    outside,
+                    core,
+                    bells,
+                };
                 Err((desk, passes))
             }
         }
@@ -109,13 +124,6 @@ impl<R: Wait + Drop, S: Outside + Drop, K: Ledgers> Desk<R, S, K> {
 }
 
 impl<R: Wait + Clock, S: Outside, K: Ledgers> Desk<R, S, K> {
-    /// What it reaches outside.
-    pub fn outside(&self) -> &S
-        ensures { result.now ≡ self.now.outside }
-    {
-        &self.outside
-    }
-
     /// A pass that nobody holds; `None` where 4,294,967,295 were cut off.
     pub fn pass(&self) -> Option<Pass<K>>
         ensures counted { IfSome result (λ p. p.counted ≡ new_pass) }
@@ -130,12 +138,12 @@ impl<R: Wait + Clock, S: Outside, K: Ledgers> Desk<R, S, K> {
             Helps::Nobody => {}
             Helps::One(client) => {
                 drop(core);
-                self.outside.ring(Rung::One(client));
+                self.bells.of(client).notify_all();
             }
             Helps::FirstOfEach => self.ring_first_of_each(core),
             Helps::All => {
                 drop(core);
-                self.outside.ring(Rung::All);
+                self.bells.ring_all();
             }
         }
     }
@@ -145,14 +153,22 @@ impl<R: Wait + Clock, S: Outside, K: Ledgers> Desk<R, S, K> {
     fn ring_first_of_each(&self, core: MutexGuard<'_, Core<S, K>>) {
         let chosen = core.first_of_each();
         drop(core);
-        self.outside.ring(Rung::Chosen(&chosen));
+        self.bells.ring(&chosen);
     }
 
     /// Wakes this client, if any.
     fn wake(&self, client: Option<u64>) {
         if let Some(client) = client {
-            self.outside.ring(Rung::One(client));
+            self.bells.of(client).notify_all();
         }
+    }
+
+    /// Lets the lock go until this client is woken, or for as long as [`WAITING_LOOK`] says.
+    fn wait(&self, client: u64, core: MutexGuard<'_, Core<S, K>>) {
+        let _ = self
+            .bells
+            .of(client)
+            .wait_timeout(&self.rt, core, WAITING_LOOK.duration());
     }
 
     /// Whether so many seconds have gone since then; 0 are without a limit.
@@ -280,7 +296,10 @@ impl<R: Wait + Clock, S: Outside, K: Ledgers> LinkDesk for Desk<R, S, K> {
         let mut core = self.core.lock(&self.rt);
         let helps = core.helped_behind(client);
         match core.take(pass, client) {
-            Grant::Queued => Grant::Queued,
+            Grant::Queued => {
+                self.wait(client, core);
+                Grant::Queued
+            }
             grant => {
                 self.ring(core, helps);
                 granted(&self.outside, grant)
@@ -387,7 +406,11 @@ impl<R: Wait + Clock, S: Outside, K: Ledgers> LinkDesk for Desk<R, S, K> {
             return Place::Nowhere;
         }
         let mut core = self.core.lock(&self.rt);
-        core.place_for(client, key)
+        let place = core.place_for(client, key);
+        if let Place::Waits = place {
+            self.wait(client, core);
+        }
+        place
     }
 
     fn leave(&self, pass: &mut Pass<K>) -> Gone {

@@ -7,7 +7,7 @@
 #![tactic(auto)]
 
 pub mod answers;
-pub mod bells;
+mod bells;
 pub mod desk;
 mod hearing;
 mod helping;

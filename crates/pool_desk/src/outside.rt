@@ -3,7 +3,6 @@ ghost use Rattle.std.specs.Prelude.{◌≡◌, MatchOption, false};
 ghost use Rattle.session_values.specs.State.{address_of};
 ghost use Rattle.desk_tallies.specs.Homes.{IsDialled};
 
-use crate::bells::Rung;
 use book_model::limits::Limits;
 use credentials::Credential;
 use desk_tallies::answers::{Changed, Strike};
@@ -46,11 +45,6 @@ pub trait Outside {
         ensures { Self.End.standing end.new ≡ Self.End.standing end.old }
     {
         let _ = end;
-    }
-
-    /// Whoever waits at one of these bells is to ask the desk again. It is called without the desk's lock, and waits for nothing.
-    fn ring(&self, rung: Rung<'_>) {
-        let _ = rung;
     }
 
     /// Sends a cancel on its way: to the server at its place goes one CancelRequest with the key word that the link's server told. It

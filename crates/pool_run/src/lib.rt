@@ -4,15 +4,12 @@
 //! sockets, files and the clock contracts say little, so what is changed here is shown by tests of the program.
 #![tactic(auto)]
 
-mod bells;
 mod figures;
 pub mod keeping;
 pub mod listening;
 pub mod log;
-mod looping;
 mod places;
 pub mod pool;
 pub mod runtime;
-mod served;
 mod staying;
 mod surroundings;

@@ -1,13 +1,13 @@
 //! The pool's log, as its threads write to it. No contract says what is logged; tests/program/console.py shows it.
 
 use crate::surroundings::is_short_of_files;
-use client_stays::secrets::uselessness;
 use ini_config::AuthType;
 use log_lines::events::{Event, Heard, Rates, Totals};
 use log_lines::notes::{Client, Note};
 use log_writer::limiter::Limiter;
 use log_writer::log::Log;
 use pool_figures::figures::Figures;
+use pool_serve::secrets::uselessness;
 use std::alloc::Global;
 use std::io;
 use std::rt::Clock;

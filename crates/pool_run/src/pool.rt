@@ -9,14 +9,11 @@ ghost use Rattle.rand_chacha.specs.ChaCha.{of_seed};
 ghost use Rattle.server_end.specs.Moves.{IsWithin};
 ghost use Rattle.pool_run.specs.declared.pool.TheConstants.{HEARD};
 
-use crate::bells::{Bell, Bells};
 use crate::keeping::{Arrival, Keeper, Source};
 use crate::listening::{Begun, Listening};
 use crate::log::PoolLog;
-use crate::looping::Loop;
 use crate::places::Places;
 use crate::runtime::PoolRuntime;
-use crate::served::{Came, Served, serve_apart};
 use crate::surroundings::Surroundings;
 use book_model::settings::limits_of;
 use desk_tallies::ledgers::Ledgers;
@@ -34,29 +31,28 @@ use log_writer::log::begin;
 use message_view::KeyWord;
 use pool_desk::answers::{HungUp, Ticked};
 use pool_desk::desk::Desk;
-use pool_serve::serving::Serving;
+use pool_serve::serve::serve;
 use pool_watch::desk::WatchedDesk;
+use pool_watch::seats::Seat;
 use pool_watch::watch::Watch;
 use relay_flow::buffers::Buffers;
 use scram::hmac;
-use server_end::gate::OpenGate;
+use server_end::gate::Gate;
 use server_end::{Moved, ServerEnd};
 use std::alloc::{AllocError, Global};
-use std::collections::VecDeque;
 use std::io::Write;
 use std::marker::Brand;
 use std::rt::Clock;
-use std::sync::atomic::{AtomicBool, AtomicU64, Ordering};
-use std::sync::{Arc, Condvar, CondvarTimeouts, Mutex, Wait};
+use std::sync::atomic::{AtomicBool, Ordering};
+use std::sync::{Arc, Mutex, Wait};
 use std::time::Instant;
 use std::{io, thread};
 use tcp_end::connection::TcpEnd;
-use tcp_end::gate::GatePoll;
+use tcp_end::gate::{GatePoll, TcpGate};
 use tcp_end::idle::{IdlePoll, Minder};
-use tcp_end::many::ManyPoll;
 use tcp_listen::acceptor::{Acceptor, Turn};
 use tcp_listen::listener::Peer;
-use time_limits::{CLOCK_TURN, GIVING_WAY, REST};
+use time_limits::{CLOCK_TURN, GIVING_WAY};
 use user_file::UserTable;
 use worker_threads::Workers;
 
@@ -83,58 +79,11 @@ struct Belongings {
     buffers: Option<Buffers>,
 }
 
-/// A connection that has come.
-pub(crate) struct Newcomer {
-    word: KeyWord,
-    client: TcpEnd,
-    visit: Visit,
-}
-
-impl Drop for Newcomer {
-    fn drop(self) {
-        let Newcomer {
-            word: _,
-            client: _,
-            visit: _,
-        } = self;
-    }
-}
-
-impl Newcomer {
-    /// Its key word, its end, and what the log knows it by.
-    fn into_parts(self) -> (KeyWord, TcpEnd, Visit) {
-        let Newcomer {
-            word,
-            client,
-            visit,
-        } = self;
-        (word, client, visit)
-    }
-}
-
-/// What is left to a loop.
-#[derive(Drop)]
-struct Letters<R: PoolRuntime, F: Source, K: Ledgers> {
-    comers: VecDeque<Newcomer>,
-    back: VecDeque<Served<R, F, K>>,
-}
-
 /// What all threads of a pool share.
 pub(crate) struct Pool<R: PoolRuntime, F: Source, K: Ledgers> {
     pub(crate) rt: R,
     alloc: Global,
-    pub(crate) desk: Arc<Desk<R, Surroundings<R, F>, K>>,
-    pub(crate) bells: Arc<Bells>,
-    /// One of each loop.
-    letters: Vec<Mutex<Letters<R, F, K>>>,
-    /// Clients that are to go on on threads of their own, with the places of their loops.
-    apart: Mutex<VecDeque<(usize, Served<R, F, K>)>>,
-    /// One was left there, or none will be any more.
-    apart_bell: Condvar,
-    /// So many were left so.
-    left_apart: AtomicU64,
-    /// So many connections there are.
-    clients: AtomicU64,
+    pub(crate) desk: Desk<R, Surroundings<R, F>, K>,
     free: Mutex<Free<K>>,
     pub(crate) keeper: Arc<Keeper<R, F>>,
     log: Arc<PoolLog<R>>,
@@ -151,12 +100,6 @@ impl<R: PoolRuntime, F: Source, K: Ledgers> Drop for Pool<R, F, K> {
             rt: _,
             alloc: _,
             desk: _,
-            bells: _,
-            letters: _,
-            apart: _,
-            apart_bell: _,
-            left_apart: _,
-            clients: _,
             free: _,
             keeper: _,
             log: _,
@@ -178,7 +121,6 @@ impl<R: PoolRuntime, F: Source, K: Ledgers> Pool<R, F, K> {
         source: F,
         log: &Arc<PoolLog<R>>,
         minder: Minder,
-        bells: Bells,
         blanks: Blanks,
     ) -> Result<Pool<R, F, K>, AllocError>
         requires bounds { AreWithinBounds settings }
@@ -190,14 +132,6 @@ impl<R: PoolRuntime, F: Source, K: Ledgers> Pool<R, F, K> {
         let keeper = Keeper::new(rt, alloc, settings, users, salts, source)?;
         let keeper = Arc::new(alloc, keeper)?;
         let watch = Arc::new(alloc, Watch::new(rt, alloc))?;
-        let mut letters = Vec::new(alloc);
-        for _ in 0..bells.len() {
-            letters.push(Mutex::new(Letters {
-                comers: VecDeque::new(alloc),
-                back: VecDeque::new(alloc),
-            }))?;
-        }
-        let bells = Arc::new(alloc, bells)?;
         let outside = Surroundings {
             rt,
             alloc,
@@ -206,10 +140,8 @@ impl<R: PoolRuntime, F: Source, K: Ledgers> Pool<R, F, K> {
             places: Mutex::new(Places::new(alloc)),
             minder,
             watch: Arc::try_clone(&watch)?,
-            bells: Arc::try_clone(&bells)?,
         };
         let desk = Desk::<R, Surroundings<R, F>, K>::new(rt, alloc, outside, limits, blanks)?;
-        let desk = Arc::new(alloc, desk)?;
         let free = Free {
             passes: Vec::new(alloc),
             cut: 0,
@@ -218,12 +150,6 @@ impl<R: PoolRuntime, F: Source, K: Ledgers> Pool<R, F, K> {
             rt,
             alloc,
             desk,
-            bells,
-            letters,
-            apart: Mutex::new(VecDeque::new(alloc)),
-            apart_bell: Condvar::new(),
-            left_apart: AtomicU64::new(0),
-            clients: AtomicU64::new(0),
             free: Mutex::new(free),
             keeper,
             log: Arc::try_clone(log)?,
@@ -264,226 +190,83 @@ impl<R: PoolRuntime, F: Source, K: Ledgers> Pool<R, F, K> {
         None
     }
 
-    /// A connection that has come, as a client at this seat of a loop, from now on within the time that a login may take; `None` where there is no
-    /// memory or no pass for it.
+    /// What the worker of a connection needs; `None` where there is no poll, no memory or no pass for it.
+    // written into no caller: the stack of a thread would have room for what it moves as long as its client is served
     #[inline(never)]
-    pub(crate) fn equip(
+    fn equip<'a>(
         &self,
         rt: R,
-        comer: Newcomer,
-        poll: &ManyPoll,
-        place: usize,
-    ) -> Option<Served<R, F, K>> {
-        let (word, client, visit) = comer.into_parts();
-        self.served(rt, word, client, visit, poll, place)
+        word: KeyWord,
+        client: &mut TcpEnd,
+        kept: &'a mut Option<GatePoll>,
+    ) -> Option<(TcpGate<'a, R>, Arrival, FreePass<K>)>
+        ensures client { client.new ≡ client.old }
+        ensures login { IfSome result (λ e. IsNewLogin word e.1.login) }
+    {
+        if kept.is_none() {
+            *kept = self.new_poll();
+        }
+        let gate = TcpGate::new(rt, kept.as_mut()?, client).ok()?;
+        let arrival = self.keeper.arrival(word).ok()?;
+        // last, since a pass that is dropped is lost
+        let pass = self.pass(&rt)?;
+        Some((gate, arrival, pass))
     }
 
-    /// The same, of its key word, its end, and what the log knows it by.
-    fn served(
+    /// Serves a connection that has its seat, from now on within the time that a login may take.
+    fn serve_seated(
         &self,
         rt: R,
         word: KeyWord,
         client: TcpEnd,
         visit: Visit,
-        poll: &ManyPoll,
-        place: usize,
-    ) -> Option<Served<R, F, K>> {
-        let since = visit.since;
+        kept: &mut Belongings,
+        seat: &Seat,
+    ) {
         let mut client = client;
-        let mut post = poll.post(&mut client, place).ok()?;
-        let sight = client.sight().ok()?;
-        let desk = Arc::try_clone(&self.desk).ok()?;
-        let watch = Arc::try_clone(&self.watch).ok()?;
-        let arrival = self.keeper.arrival(word).ok()?;
-        let (id, seat) = self.watch.enter(visit, sight)?;
-        // last, since a pass that is dropped is lost
-        let Some(FreePass { pass }) = self.pass(&rt) else {
-            self.watch.leave(id);
-            return None;
+        let Belongings { poll, buffers } = kept;
+        let Some((gate, arrival, FreePass { pass })) = self.equip(rt, word, &mut client, poll)
+        else {
+            self.log.unserved();
+            return;
         };
+        let mut gate = gate;
         let Arrival {
             login,
             settings,
             users,
         } = arrival;
         let seconds = settings.client_login_timeout();
-        let serving = Serving::begin(pass, client, login, word, visit);
-        post.reckon_from(&rt, since);
-        post.limit(&rt, some_time(seconds));
+        gate.reckon_from(visit.since);
+        Gate::limit(&mut gate, some_time(seconds));
         let desk = WatchedDesk {
             rt,
             alloc: self.alloc,
-            desk,
-            watch,
+            desk: &self.desk,
+            watch: &*self.watch,
             seat,
             settings,
             users,
         };
-        Some(Served {
-            id,
-            seconds,
-            desk,
-            serving,
-            post,
-        })
-    }
-
-    /// A connection is closed for which there was no room.
-    pub(crate) fn turned_away(&self) {
-        self.log.unserved();
-        self.goes();
-    }
-
-    /// A client is over.
-    #[inline(never)]
-    pub(crate) fn finish(&self, rt: R, served: Served<R, F, K>) {
-        let (id, seconds, desk, serving, _) = served.into_parts();
-        let mut serving = serving;
-        // nothing is left to be done of one that is over
-        serving.stop(&desk, &mut OpenGate::new(), &mut None);
-        let (_, pass) = serving.finish();
+        let (_, pass) = serve(
+            self.alloc, &desk, pass, client, login, word, gate, visit, buffers,
+        );
         self.give_back(&rt, FreePass { pass });
-        if !desk.seat.is_known() && desk.seat.is_late(&rt, seconds) {
+        if !seat.is_known() && seat.is_late(&rt, seconds) {
             self.log.late();
         }
-        self.watch.leave(id);
-        self.goes();
     }
 
-    /// A connection is done.
-    fn goes(&self) {
-        if self.clients.fetch_sub(1, Ordering::SeqCst) == 1
-            && self.is_closed.load(Ordering::SeqCst)
-        {
-            self.wake_all();
-        }
-    }
-
-    /// Ends the waits of those who look whether all is over.
-    fn wake_all(&self) {
-        // who has looked, and doesn't wait yet, holds the lock
-        drop(self.apart.lock(&self.rt));
-        self.apart_bell.notify_all();
-        self.bells.wake_all();
-    }
-
-    /// A client that can't be served on is cut off.
-    pub(crate) fn cut(&self, rt: R, served: Served<R, F, K>, kept: &mut Option<Buffers>) {
-        let mut served = served;
-        served
-            .serving
-            .stop(&served.desk, &mut OpenGate::new(), kept);
-        self.log.unserved();
-        self.finish(rt, served);
-    }
-
-    /// Whether the last connection is done, and no other is accepted.
-    pub(crate) fn is_over(&self) -> bool {
-        self.is_closed.load(Ordering::SeqCst) && self.clients.load(Ordering::SeqCst) == 0
-    }
-
-    /// Leaves a connection to the loop at this place.
-    fn leave_to(&self, place: usize, comer: Newcomer) {
-        self.clients.fetch_add(1, Ordering::SeqCst);
-        let is_left = match self.letters.get(place) {
-            Some(letters) => letters.lock(&self.rt).comers.push_back(comer).is_ok(),
-            None => false,
-        };
-        if !is_left {
-            self.turned_away();
-            return;
-        }
-        if let Some(bell) = self.bells.of(place) {
-            bell.wake();
-        }
-    }
-
-    /// The next connection that was left to the loop at this place.
-    pub(crate) fn next_newcomer(&self, place: usize) -> Option<Newcomer> {
-        self.letters.get(place)?.lock(&self.rt).comers.pop_front()
-    }
-
-    /// The next client that comes back to it.
-    pub(crate) fn next_back(&self, place: usize) -> Option<Served<R, F, K>> {
-        self.letters.get(place)?.lock(&self.rt).back.pop_front()
-    }
-
-    /// Whether something was left to it.
-    pub(crate) fn has_letters(&self, place: usize) -> bool {
-        match self.letters.get(place) {
-            Some(letters) => {
-                let letters = letters.lock(&self.rt);
-                !letters.comers.is_empty() || !letters.back.is_empty()
+    /// Serves one connection to its end, with what its thread keeps. One for which there is no poll, no pass or no memory is
+    /// closed.
+    fn attend(&self, rt: R, word: KeyWord, client: TcpEnd, visit: Visit, kept: &mut Belongings) {
+        let sight = client.sight().ok();
+        match sight.and_then(|sight| self.watch.enter(visit, sight)) {
+            Some((id, seat)) => {
+                self.serve_seated(rt, word, client, visit, kept, &seat);
+                self.watch.leave(id);
             }
-            None => false,
-        }
-    }
-
-    /// Leaves a client of the loop at this place to a thread; the client again, where memory is refused.
-    pub(crate) fn leave_apart(
-        &self,
-        place: usize,
-        served: Served<R, F, K>,
-    ) -> Result<(), Served<R, F, K>> {
-        let mut apart = self.apart.lock(&self.rt);
-        if let Err(failed) = apart.push_back((place, served)) {
-            return Err(failed.value.1);
-        }
-        self.left_apart.fetch_add(1, Ordering::SeqCst);
-        drop(apart);
-        self.apart_bell.notify_one();
-        Ok(())
-    }
-
-    /// Waits until a client was left so; whether one may have been, and not all loops have ended.
-    fn awaits_apart(&self, rt: &R, started: u64) -> bool {
-        let apart = self.apart.lock(rt);
-        if self.left_apart.load(Ordering::SeqCst) == started && !self.is_over() {
-            let _ = self.apart_bell.wait_timeout(rt, apart, REST.duration());
-        }
-        !self.is_over()
-    }
-
-    /// The next client that was left so.
-    pub(crate) fn next_apart(&self) -> Option<(usize, Served<R, F, K>)> {
-        self.apart.lock(&self.rt).pop_front()
-    }
-
-    /// A client waits for the desk, and goes back to its loop.
-    fn hand_back(&self, rt: R, place: usize, served: Served<R, F, K>, kept: &mut Option<Buffers>) {
-        let Some(letters) = self.letters.get(place) else {
-            self.cut(rt, served, kept);
-            return;
-        };
-        let mut letters = letters.lock(&self.rt);
-        let failed = letters.back.push_back(served);
-        drop(letters);
-        if let Err(failed) = failed {
-            self.cut(rt, failed.value, kept);
-            return;
-        }
-        if let Some(bell) = self.bells.of(place) {
-            bell.wake();
-        }
-    }
-
-    /// Serves a client that was left to a thread, with what that keeps.
-    fn attend(&self, rt: R, kept: &mut Belongings) {
-        let Some((place, served)) = self.next_apart() else {
-            return;
-        };
-        let Belongings { poll, buffers } = kept;
-        if poll.is_none() {
-            *poll = self.new_poll();
-        }
-        let Some(poll) = poll.as_mut() else {
-            self.cut(rt, served, buffers);
-            return;
-        };
-        let (served, came) = serve_apart(rt, self.alloc, served, poll, buffers);
-        match came {
-            Came::Over => self.finish(rt, served),
-            Came::ToDesk => self.hand_back(rt, place, served, buffers),
+            None => self.log.unserved(),
         }
     }
 
@@ -585,12 +368,6 @@ impl<R: PoolRuntime, F: Source, K: Ledgers> Pool<R, F, K> {
             rt: _,
             alloc,
             desk,
-            bells: _,
-            letters: _,
-            apart: _,
-            apart_bell: _,
-            left_apart: _,
-            clients: _,
             free,
             keeper: _,
             log: _,
@@ -598,9 +375,6 @@ impl<R: PoolRuntime, F: Source, K: Ledgers> Pool<R, F, K> {
             is_closed: _,
             has_ended: _,
         } = self;
-        let Ok(desk) = Arc::try_unwrap(desk) else {
-            return None;
-        };
         let mut passes = Vec::new(alloc);
         for FreePass { pass } in free.into_inner().passes {
             passes.push(pass).ok()?;
@@ -618,9 +392,6 @@ impl<R: PoolRuntime, F: Source, K: Ledgers> Pool<R, F, K> {
         })
     }
 }
-
-/// So many loops there are.
-const LOOPS: usize = 2;
 
 /// As much as is read of what the server of an idle link says.
 const HEARD: usize = 512;
@@ -665,71 +436,69 @@ fn visit_of<R: Clock>(rt: &R, peer: Peer) -> Visit {
     }
 }
 
-/// A thread is to serve a client that was left apart.
-pub(crate) struct Apart<R: PoolRuntime, F: Source, K: Ledgers> {
+/// A connection that is to be served, and what its thread needs for that.
+struct Connection<R: PoolRuntime, F: Source, K: Ledgers> {
     rt: R,
     pool: Arc<Pool<R, F, K>>,
+    word: KeyWord,
+    client: TcpEnd,
+    visit: Visit,
 }
 
-impl<R: PoolRuntime, F: Source, K: Ledgers> Drop for Apart<R, F, K> {
+impl<R: PoolRuntime, F: Source, K: Ledgers> Drop for Connection<R, F, K> {
     fn drop(self) {
-        let Apart { rt: _, pool: _ } = self;
+        let Connection {
+            rt: _,
+            pool: _,
+            word: _,
+            client: _,
+            visit: _,
+        } = self;
     }
 }
 
-impl<R: PoolRuntime, F: Source, K: Ledgers> Apart<R, F, K> {
-    /// Serves it, with what its thread keeps.
+impl<R: PoolRuntime, F: Source, K: Ledgers> Connection<R, F, K> {
+    /// Serves it to its end, with what its thread keeps.
     fn attend(self, kept: &mut Option<Belongings>) {
-        let Apart { rt, pool } = self;
+        let Connection {
+            rt,
+            pool,
+            word,
+            client,
+            visit,
+        } = self;
         let kept = kept.get_or_insert(Belongings {
             poll: None,
             buffers: None,
         });
-        pool.attend(rt, kept);
+        pool.attend(rt, word, client, visit, kept);
     }
 }
 
-/// Has threads serve the clients that are left apart, until the last of the pool is done.
-fn work_apart<
-    R: PoolRuntime + 'static,
-    F: Source + Send + Sync + 'static,
-    K: Ledgers + Send + Sync + 'static,
->(rt: R, alloc: Global, pool: &Arc<Pool<R, F, K>>) -> Result<(), AllocError> {
-    let mut workers = Workers::<Apart<R, F, K>>::new(alloc)?;
-    let mut started: u64 = 0;
-    for _ in rt.forever() {
-        if !pool.awaits_apart(&rt, started) {
-            break;
-        }
-        let left = pool.left_apart.load(Ordering::SeqCst);
-        for _ in started..left {
-            if start_worker(rt, &mut workers, pool).is_err() {
-                if let Some((_, served)) = pool.next_apart() {
-                    pool.cut(rt, served, &mut None);
-                }
-            }
-        }
-        started = left;
-    }
-    workers.join_all(&rt);
-    Ok(())
-}
-
-/// Has a thread serve a client that was left apart.
+/// Serves one connection on a thread of its own.
 fn start_worker<
     R: PoolRuntime + 'static,
     F: Source + Send + Sync + 'static,
     K: Ledgers + Send + Sync + 'static,
 >(
     rt: R,
-    workers: &mut Workers<Apart<R, F, K>>,
+    workers: &mut Workers<Connection<R, F, K>>,
     pool: &Arc<Pool<R, F, K>>,
+    word: KeyWord,
+    client: TcpEnd,
+    visit: Visit,
 ) -> Result<(), AllocError> {
     let pool = Arc::try_clone(pool)?;
     workers.start(
         rt,
-        Apart { rt, pool },
-        |kept: &mut Option<Belongings>, apart: Apart<R, F, K>| apart.attend(kept),
+        Connection {
+            rt,
+            pool,
+            word,
+            client,
+            visit,
+        },
+        |kept: &mut Option<Belongings>, connection: Connection<R, F, K>| connection.attend(kept),
     )
 }
 
@@ -742,8 +511,8 @@ fn accept_all<
 >(
     rt: R,
     acceptor: &mut Acceptor,
+    workers: &mut Workers<Connection<R, F, K>>,
     pool: &Arc<Pool<R, F, K>>,
-    loops: usize,
     keys: KeySource,
     count: Option<u64>,
 ) {
@@ -758,13 +527,11 @@ fn accept_all<
                 accepted = accepted.wrapping_add(1);
                 let word = keys.next();
                 let visit = visit_of(&rt, peer);
-                let comer = Newcomer {
-                    word,
-                    client,
-                    visit,
-                };
-                let place = accepted.checked_rem(loops as u64).unwrap_or(0);
-                pool.leave_to(place as usize, comer);
+                // a thread that can't be started closes this connection alone
+                if start_worker(rt, workers, pool, word, client, visit).is_err() {
+                    pool.watch.cut_oldest();
+                    pool.log.unserved();
+                }
             }
             Turn::Nobody => {}
             Turn::Failed => {
@@ -774,30 +541,6 @@ fn accept_all<
             }
         }
     }
-}
-
-/// Accepts connections to the last, and gives the ports back.
-fn accept<
-    R: PoolRuntime + 'static,
-    F: Source + Send + Sync + 'static,
-    K: Ledgers + Send + Sync + 'static,
->(
-    rt: R,
-    acceptor: Acceptor,
-    pool: &Arc<Pool<R, F, K>>,
-    loops: usize,
-    keys: KeySource,
-    count: Option<u64>,
-) {
-    let mut acceptor = acceptor;
-    accept_all(rt, &mut acceptor, pool, loops, keys, count);
-    pool.is_closed.store(true, Ordering::SeqCst);
-    if pool.desk.is_shut() {
-        pool.watch.cut_strangers();
-    }
-    // the ports are free before the last client has gone
-    pool.keeper.stops_listening();
-    pool.wake_all();
 }
 
 /// What a pool has decided that no thread shares any more.
@@ -848,29 +591,17 @@ fn serve_all<
     requires all { parts_of blanks ≡ of_each ALL_PARTS }
 {
     let log = Arc::new(alloc, log)?;
-    let Begun { acceptor, metrics } = listening.begin(&rt, alloc, &log)?;
-    let mut polls = Vec::new(alloc);
-    let mut bells = Vec::new(alloc);
-    for _ in 0..LOOPS {
-        let poll = ManyPoll::new(&rt, alloc)?;
-        bells.push(Bell::new(alloc, poll.waker()?))?;
-        polls.push(poll)?;
-    }
+    let Begun {
+        mut acceptor,
+        metrics,
+    } = listening.begin(&rt, alloc, &log)?;
+    let mut workers = Workers::<Connection<R, F, K>>::new(alloc)?;
     let keys = keys_of(seed, &settings);
     let idle = IdlePoll::new(&rt, alloc)?;
     let minder = idle.minder()?;
     let salts = salts_key(&seed);
     let pool = Pool::<R, F, K>::open(
-        rt,
-        alloc,
-        settings,
-        users,
-        salts,
-        source,
-        &log,
-        minder,
-        Bells::new(bells),
-        blanks,
+        rt, alloc, settings, users, salts, source, &log, minder, blanks,
     )?;
     let pool = Arc::new(alloc, pool)?;
     pool.keeper.tell_users(&log);
@@ -881,24 +612,16 @@ fn serve_all<
     let clock = thread::spawn(&rt, move || shared.run_clock(&rt, idle, pass))?;
     let scraped = Arc::try_clone(&pool)?;
     let figures = thread::spawn(&rt, move || scraped.serve_metrics(&rt, alloc, metrics))?;
-    let mut loops = Vec::new(alloc);
-    for poll in polls {
-        let place = loops.len();
-        let turning = Loop::new(rt, alloc, place, Arc::try_clone(&pool)?, poll);
-        loops.push(thread::spawn(&rt, move || turning.run())?)?;
+    accept_all(rt, &mut acceptor, &mut workers, &pool, keys, count);
+    pool.is_closed.store(true, Ordering::SeqCst);
+    if pool.desk.is_shut() {
+        pool.watch.cut_strangers();
     }
-    let accepted = Arc::try_clone(&pool)?;
-    let count_of_loops = loops.len();
-    let accepting = thread::spawn(
-        &rt,
-        move || accept(rt, acceptor, &accepted, count_of_loops, keys, count),
-    )?;
-    work_apart(rt, alloc, &pool)?;
-    accepting.join(&rt);
+    // the ports are free before the last client has gone
+    pool.keeper.stops_listening();
+    drop(acceptor);
     figures.join(&rt);
-    for turning in loops {
-        turning.join(&rt);
-    }
+    workers.join_all(&rt);
     pool.has_ended.store(true, Ordering::SeqCst);
     pool.keeper.end();
     deriving.join(&rt);

@@ -5,7 +5,6 @@ ghost use Rattle.tcp_end.specs.Connections.{new_connection};
 ghost use Rattle.tcp_reach.specs.Places.{IsPlaceOf};
 ghost use Rattle.tcp_reach.specs.Streams.{own_place};
 
-use crate::bells::Bells;
 use crate::keeping::{Keeper, Source};
 use crate::log::PoolLog;
 use crate::places::Places;
@@ -18,7 +17,6 @@ use keep_alive::Keepalive;
 use link_desk::answers::{Changed, Strike};
 use log_lines::notes::{Client, Note};
 use message_view::put_cancel_request;
-use pool_desk::bells::Rung;
 use pool_desk::outside::Outside;
 use pool_watch::watch::Watch;
 use start_keys::StartKey;
@@ -81,7 +79,6 @@ pub struct Surroundings<R: PoolRuntime, F: Source> {
     pub(crate) places: Mutex<Places>,
     pub(crate) minder: Minder,
     pub(crate) watch: Arc<Watch<R>>,
-    pub(crate) bells: Arc<Bells>,
 }
 
 impl<R: PoolRuntime, F: Source> Drop for Surroundings<R, F> {
@@ -94,7 +91,6 @@ impl<R: PoolRuntime, F: Source> Drop for Surroundings<R, F> {
             places: _,
             minder: _,
             watch: _,
-            bells: _,
         } = self;
     }
 }
@@ -176,10 +172,6 @@ impl<R: PoolRuntime, F: Source> Outside for Surroundings<R, F> {
 
     fn release(&self, end: &mut TcpEnd) {
         end.release(&self.minder);
-    }
-
-    fn ring(&self, rung: Rung<'_>) {
-        self.bells.ring(&self.rt, rung);
     }
 
     fn strike(&self, strike: &Strike) {

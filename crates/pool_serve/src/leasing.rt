@@ -1,28 +1,37 @@
-//! A client's lease, from its link's grant to its end.
-ghost use Rattle.std.specs.Prelude.{◌≡◌, IfErr, IfOk};
-ghost use Rattle.ini_config.specs.Bounds.{AreWithinBounds};
-ghost use Rattle.link_desk.specs.Homes.{IsAtHome};
-ghost use Rattle.client_stays.specs.Cancels.{IsKeyed, key_of};
-ghost use Rattle.client_stays.specs.Endings.{refusal_told};
-ghost use Rattle.pool_serve.specs.Servings.{Comes, HasStopped, HasStoppedAt, IsAt, IsOver, Keeps, Leads, Linked, Origin, Owes, Relaying, stage_of, stands_at};
+//! A link for a client, and its lease.
+ghost use Rattle.std.specs.Prelude.{◌≡◌, [], IfErr, IfOk, IsSome, None, Some, true};
+ghost use Rattle.std.specs.Arc.{arc_value};
+ghost use Rattle.start_keys.specs.Keys.{same_key};
+ghost use Rattle.link_desk.specs.Homes.{IsAtHome, IsGrantAtHome};
+ghost use Rattle.link_desk.specs.Passes.{after_grant, after_loss, granted_lease, one_granted, one_other, taken, without_lease};
+ghost use Rattle.link_desk.specs.declared.answers.Gone.{Gone};
+ghost use Rattle.link_desk.specs.declared.calls.Call.TheVariants.{Lost, StartFailed};
+ghost use Rattle.link_desk.specs.declared.calls.Stage.TheVariants.{Granted};
+ghost use Rattle.link_desk.specs.Refusing.{MayTake};
+ghost use Rattle.pool_serve.specs.Again.{HasEndedAtLast, IsEndedFor, IsGrantedAtLast, IsHeldBy, IsLinked, IsNotStarted, IsUnlinkedAtLast, lacks_place};
+ghost use Rattle.pool_serve.specs.Causes.{AtAsking, AtLease, AtWait, HadLink, HasLost};
+ghost use Rattle.pool_serve.specs.Cancels.{key_of};
+ghost use Rattle.pool_serve.specs.Endings.{Frees, HasEnded, HasLeased, IsUnopened};
+ghost use Rattle.pool_serve.specs.Serving.{IsLoggedIn, LetsIn, MayEnd, owed};
+ghost use Rattle.pool_serve.specs.Shares.{Ends, Evens};
+ghost use Rattle.pool_serve.specs.FinalMessages.{final_message_of};
+ghost use Rattle.pool_serve.specs.declared.ending.Ending.TheVariants as ending;
 
-use crate::caller::Caller;
-use crate::stage::{Guest, Lease, Past, Stage, Step, Until, lead};
-use client_stays::ending::Ending;
-use client_stays::noting::lent_note;
-use link_desk::answers::Keying;
+use crate::ending::Ending;
+use crate::logged_in::LoggedIn;
+use crate::noting::asking_note;
+use crate::opening::open_link;
+use crate::worker::Worker;
+use link_desk::answers::{Asked, Grant, Keying, Place};
 use link_desk::desk::LinkDesk;
 use link_run::links::CleanLink;
 use link_start::close::close_link;
-use login_core::laws::service_is_its_pieces;
-use message_view::{KeyView, KeyWord, Refusal};
-use relay_core::relay::Relay;
-use relay_flow::buffers::Buffers;
-use relay_model::{Next, leases_are_allowed};
-use server_end::gate::{Gate, Ready};
+use link_start::start::StartCause;
+use log_lines::lines::sqlstate;
+use message_view::{KeyView, KeyWord};
+use server_end::gate::Gate;
 use server_end::{ClientEnd, ServerEnd};
-use std::alloc::Global;
-use std::mem;
+use time_limits::MAX_TURNS;
 
 /// The words by which a cancel names a client: those of the BackendKeyData that it is given.
 fn key_of(word: KeyWord) -> KeyView
@@ -34,178 +43,277 @@ fn key_of(word: KeyWord) -> KeyView
     }
 }
 
-/// What the relay's last answer refuses the client by, if it does.
-pub(crate) fn refusal_told(next: Next) -> Option<Refusal>
-    ensures { result ≡ refusal_told next }
+/// Whether a link's session is of a client's key.
+fn is_for<E: ServerEnd>(link: &CleanLink<E>, logged_in: &LoggedIn) -> bool
+    ensures { result ≡ same_key link.now.key (arc_value logged_in.now.key) }
 {
-    match next {
-        Next::Refuse(refusal) => Some(refusal),
-        Next::Again | Next::Wait | Next::ClientDone | Next::Closed => None,
+    **link.key() == *logged_in.key
+}
+
+/// Whether a link wasn't started since its server has no place for it, or is just starting (SQLSTATE 53300, 57P03).
+fn lacks_place(ending: &Ending) -> bool
+    ensures { result ≡ lacks_place ending.now }
+{
+    match ending {
+        Ending::Unstarted(StartCause::Refused(error)) => {
+            let state = sqlstate(error.as_bytes());
+            state == b"53300".as_slice() || state == b"57P03".as_slice()
+        }
+        _ => false,
     }
 }
 
-/// Whether its server's connection has ended, by the relay's last answer.
-fn has_ended(next: Next) -> bool {
-    matches!(next, Next::Refuse(Refusal::ServerFailed) | Next::Closed)
-}
-
-/// A lease that goes on, and whether anything has moved in it.
-fn go_on<C: ClientEnd, E: ServerEnd, G: Gate<E>>(
-    gate: &mut G,
-    lease: &mut Lease<C, E>,
-    has_moved: bool,
-) -> Step
-    ensures relay { lease.new.relay ≡ lease.old.relay }
-    ensures logged_in { lease.new.logged_in ≡ lease.old.logged_in }
-    ensures over { IsOver result (Relaying lease.new.relay lease.new.logged_in) }
-    ensures turns { G.turns gate.new ≡ G.turns gate.old }
-{
-    let was_clear = lease.was_clear;
-    lease.was_clear = lease.relay.is_clear();
-    if has_moved & !(was_clear & lease.was_clear) {
-        return Step::Again;
+impl<'a, D: LinkDesk, G: Gate<D::End>> Worker<'a, D, G> {
+    /// Closes the client's link, over which nothing went, and reports it lost.
+    fn drop_link(&mut self, link: CleanLink<D::End>)
+        requires here { IsSome (D.holder self.old.pass).lease }
+        ensures lost { HadLink AtLease (D.counted self.old.pass) (D.counted self.new.pass) × HasLost (D.counted self.old.pass) (D.counted self.new.pass) }
+        ensures share { Ends (D.counted self.old.pass) (D.counted self.new.pass) }
+        ensures holder { D.holder self.new.pass ≡ without_lease Lost (D.holder self.old.pass) }
+    {
+        close_link(link);
+        self.desk.lost(&mut self.pass);
     }
-    gate.tell(lease.relay.counts());
-    Step::Wait(Until::Both)
-}
 
-impl<D: LinkDesk> Caller<D> {
-    /// Its lease begins, which a cancel finds from here on by its key word. A link whose server told no key word serves all the same: no
-    /// cancel is for it.
-    #[inline(never)]
-    pub(crate) fn begin_lease<C: ClientEnd, G: Gate<D::End>>(
+    /// Serves a client over its link, whose lease a cancel finds from here on by the client's key word. A link whose server told no key
+    /// word serves all the same: no cancel is for it.
+    fn over_link<C: ClientEnd>(
         &mut self,
-        alloc: Global,
-        desk: &D,
-        gate: &mut G,
-        kept: &mut Option<Buffers>,
-        guest: Guest<C>,
+        client: C,
+        logged_in: &LoggedIn,
         link: CleanLink<D::End>,
-    ) -> (Stage<C, D::End>, Step)
-        requires at { IsAt D.home (stands_at D.counted D.holder self.old.pass self.old.word (Linked (C.facts guest.client) guest.logged_in link)) }
-        ensures keeps { Keeps D.home (stands_at D.counted D.holder self.old.pass self.old.word (Linked (C.facts guest.client) guest.logged_in link)) (stands_at D.counted D.holder self.new.pass self.new.word (stage_of C.facts result.0)) }
-        ensures over { IsOver result.1 (stage_of C.facts result.0) }
-        ensures turns { G.turns gate.new ≡ G.turns gate.old }
+    ) -> (C, Ending)
+        requires home { IsAtHome D.home link }
+        requires key { link.key ≡ arc_value logged_in.now.key }
+        requires own { (D.holder self.old.pass).lease ≡ Some (granted_lease link) }
+        requires logged_in { IsLoggedIn logged_in.now }
+        ensures share { Ends (D.counted self.old.pass) (D.counted self.new.pass) }
+        ensures frees { Frees (D.holder self.old.pass) (D.holder self.new.pass) result.1 }
+        ensures ended { HasEnded D.home logged_in.now AtLease (D.counted self.old.pass) (D.counted self.new.pass) (C.facts client) (C.facts result.0) result.1 }
     {
         let Some(server) = link.server_key() else {
-            let stage = self.relay_over(alloc, desk, gate, kept, guest, link);
-            return (stage, Step::Again);
+            return self.relay(client, logged_in, link);
         };
-        let key = key_of(guest.logged_in.word);
-        match desk.keyed(&mut self.pass, key, server) {
-            Keying::Done => {
-                let stage = self.relay_over(alloc, desk, gate, kept, guest, link);
-                (stage, Step::Again)
-            }
+        match self
+            .desk
+            .keyed(&mut self.pass, key_of(logged_in.word), server)
+        {
+            Keying::Done => self.relay(client, logged_in, link),
             Keying::Last => {
-                close_link(link);
-                desk.lost(&mut self.pass);
-                (self.close(desk, guest, Ending::Last), Step::Again)
+                self.drop_link(link);
+                (client, Ending::Last)
             }
             Keying::Stranger => {
-                close_link(link);
-                desk.lost(&mut self.pass);
-                (self.close(desk, guest, Ending::Strange), Step::Again)
+                self.drop_link(link);
+                (client, Ending::Strange)
             }
         }
     }
 
-    /// It is relayed over its link, which is logged.
-    #[inline(never)]
-    fn relay_over<C: ClientEnd, G: Gate<D::End>>(
+    /// A link that was idle, for the client; one with another key than the client's is closed.
+    fn lent_link(
         &mut self,
-        alloc: Global,
-        desk: &D,
-        gate: &mut G,
-        kept: &mut Option<Buffers>,
-        guest: Guest<C>,
+        logged_in: &LoggedIn,
         link: CleanLink<D::End>,
-    ) -> Stage<C, D::End>
+    ) -> Result<CleanLink<D::End>, Ending>
         requires home { IsAtHome D.home link }
-        requires keyed { IsKeyed (D.holder self.old.pass) link guest.logged_in.word link.server_key }
-        requires settings { AreWithinBounds guest.logged_in.login.settings }
-        ensures keeps { Leads D.home (λ o. Owes D.home o (D.counted self.old.pass) (D.holder self.old.pass) (C.facts guest.client) guest.logged_in link) (stands_at D.counted D.holder self.new.pass self.new.word (stage_of C.facts result)) }
-        ensures word { self.new.word ≡ self.old.word }
-        ensures turns { G.turns gate.new ≡ G.turns gate.old }
+        requires own { (D.holder self.old.pass).lease ≡ Some (granted_lease link) }
+        ensures linked { IfOk result (λ l. IsLinked D.home logged_in.now (D.holder self.new.pass) l) }
+        ensures counted { IfOk result (λ l. D.counted self.new.pass ≡ D.counted self.old.pass) }
+        ensures holder { IfOk result (λ l. D.holder self.new.pass ≡ D.holder self.old.pass) }
+        ensures strange { IfErr result (λ e. e ≡ ending.Strange) }
+        ensures lost { IfErr result (λ e. HadLink AtLease (D.counted self.old.pass) (D.counted self.new.pass) × HasLost (D.counted self.old.pass) (D.counted self.new.pass)) }
+        ensures share { IfErr result (λ e. Ends (D.counted self.old.pass) (D.counted self.new.pass)) }
+        ensures freed { IfErr result (λ e. D.holder self.new.pass ≡ without_lease Lost (D.holder self.old.pass)) }
     {
-        self.note(desk, &lent_note(&guest.logged_in, &link));
-        let number = link.number();
-        let Guest { client, logged_in } = guest;
-        let limit = logged_in.login.settings().max_packet_size();
-        match Relay::begin_over(alloc, client, link, logged_in.word, limit, kept) {
-            Ok(relay) => Stage::Relaying(Lease {
-                relay,
-                logged_in,
-                number,
-                was_clear: false,
-            }),
-            Err((client, link)) => {
-                self.give_back_unused(desk, gate, link);
-                self.close(desk, Guest { client, logged_in }, Ending::Memory)
-            }
+        let mut link = link;
+        if !is_for(&link, logged_in) {
+            self.drop_link(link);
+            return Err(Ending::Strange);
         }
+        link.watch(&mut self.gate);
+        Ok(link)
     }
 
-    /// Its lease is pumped once; the relay's last answer, once that has come. The gate is told what went over the link before a turn is
-    /// taken: where nothing moved, or nothing was on its way before and nothing is now. Each end was then read with room to spare, and the
-    /// gate knows whether that may have left more.
-    #[inline(never)]
-    pub(crate) fn pump<C: ClientEnd, G: Gate<D::End>>(
-        &self,
-        gate: &mut G,
-        ready: Ready,
-        lease: &mut Lease<C, D::End>,
-    ) -> Result<Step, Next>
-        ensures keeps { IfOk result (λ s. Keeps D.home (stands_at D.counted D.holder self.now.pass self.now.word (Relaying lease.old.relay lease.old.logged_in)) (stands_at D.counted D.holder self.now.pass self.now.word (Relaying lease.new.relay lease.new.logged_in))) }
-        ensures over { IfOk result (λ s. IsOver s (Relaying lease.new.relay lease.new.logged_in)) }
-        ensures stopped { IfErr result (λ n. Comes D.home (stands_at D.counted D.holder self.now.pass self.now.word (Relaying lease.old.relay lease.old.logged_in)) (λ o. HasStopped D.home o (D.counted self.now.pass) (D.holder self.now.pass) lease.new.relay lease.new.logged_in n)) }
-        ensures turns { G.turns gate.new ≡ G.turns gate.old }
-    {
-        leases_are_allowed();
-        service_is_its_pieces();
-        let next = lease.relay.pump(ready);
-        match next {
-            Next::Again => Ok(go_on(gate, lease, true)),
-            Next::Wait => Ok(go_on(gate, lease, false)),
-            Next::ClientDone | Next::Refuse(_) | Next::Closed => Err(next),
-        }
-    }
-
-    /// Its lease ends by the relay's last answer, and its link goes back.
-    #[inline(never)]
-    pub(crate) fn end_relay<C: ClientEnd, G: Gate<D::End>>(
+    /// A new link for the client, which was granted it; where it can't be started, the desk is told.
+    fn new_link(
         &mut self,
-        alloc: Global,
-        desk: &D,
-        gate: &mut G,
-        kept: &mut Option<Buffers>,
-        next: Next,
-        stage: &mut Stage<C, D::End>,
-    ) -> Step
-        requires stopped { (o : Origin) × HasStoppedAt D.home o (D.counted self.old.pass) (D.holder self.old.pass) next (stage_of C.facts stage.old) }
-        ensures keeps { Leads D.home (λ o. HasStoppedAt D.home o (D.counted self.old.pass) (D.holder self.old.pass) next (stage_of C.facts stage.old)) (stands_at D.counted D.holder self.new.pass self.new.word (stage_of C.facts stage.new)) }
-        ensures word { self.new.word ≡ self.old.word }
-        ensures over { IsOver result (stage_of C.facts stage.new) }
-        ensures turns { G.turns gate.new ≡ G.turns gate.old }
+        logged_in: &LoggedIn,
+        number: u64,
+        started_at: u64,
+    ) -> Result<CleanLink<D::End>, Ending>
+        requires own { (D.holder self.old.pass).lease ≡ Some (record { number = number; started_at = started_at; stage = Granted }) }
+        requires logged_in { IsLoggedIn logged_in.now }
+        ensures linked { IfOk result (λ l. IsLinked D.home logged_in.now (D.holder self.new.pass) l) }
+        ensures counted { IfOk result (λ l. D.counted self.new.pass ≡ D.counted self.old.pass) }
+        ensures holder { IfOk result (λ l. D.holder self.new.pass ≡ D.holder self.old.pass) }
+        ensures why { IfErr result (λ e. IsUnopened D.home logged_in.now e) }
+        ensures word { LetsIn D.home logged_in.now.login → IfErr result (λ e. MayEnd [] (owed D.home.catalogue logged_in.now [] []) (final_message_of e)) }
+        ensures failed { IfErr result (λ e. (gone : Gone) × (D.counted self.new.pass ≡ after_loss (D.counted self.old.pass) gone)) }
+        ensures freed { IfErr result (λ e. D.holder self.new.pass ≡ without_lease StartFailed (D.holder self.old.pass)) }
     {
-        let Stage::Relaying(lease) = mem::replace(stage, Stage::Absent) else {
-            unreachable!()
-        };
-        let Lease {
-            relay,
+        let opened = open_link(
+            self.alloc,
+            self.desk,
             logged_in,
             number,
-            was_clear: _,
-        } = lease;
-        gate.tell(relay.counts());
-        let (client, link, last) = relay.close_over(kept);
-        let past = Past {
-            number,
-            last,
-            refusal: refusal_told(next),
-        };
-        let guest = Guest { client, logged_in };
-        let led = self.hand_back(alloc, desk, gate, guest, link, has_ended(next), past);
-        lead(stage, led)
+            started_at,
+            &mut self.gate,
+        );
+        if opened.is_err() {
+            self.desk.start_failed(&mut self.pass);
+        }
+        opened
+    }
+
+    /// Takes the client's link once it needn't wait any longer; `Queued` where the client has gone meanwhile.
+    fn take_in_turn(&mut self) -> Grant<D::End>
+        requires here { IsSome (D.holder self.old.pass).client }
+        requires none { (D.holder self.old.pass).lease ≡ None }
+        ensures counted { D.counted self.new.pass ≡ after_grant (D.counted self.old.pass) result }
+        ensures holder { D.holder self.new.pass ≡ taken (D.holder self.old.pass) result }
+        ensures refused { MayTake result }
+        ensures home { IsGrantAtHome D.home result }
+    {
+        for _ in 0..MAX_TURNS {
+            match self.desk.take(&mut self.pass) {
+                Grant::Queued => {
+                    if self.gate.client_has_left() {
+                        return Grant::Queued;
+                    }
+                }
+                grant => return grant,
+            }
+        }
+        Grant::Queued
+    }
+
+    /// A link for a client that has its ticket: it waits for that.
+    fn take_link(&mut self, logged_in: &LoggedIn) -> Result<CleanLink<D::End>, Ending>
+        requires logged_in { IsLoggedIn logged_in.now }
+        requires here { IsSome (D.holder self.old.pass).client }
+        requires none { (D.holder self.old.pass).lease ≡ None }
+        requires unrefused { (D.holder self.old.pass).refused ≡ None }
+        ensures linked { IfOk result (λ l. IsLinked D.home logged_in.now (D.holder self.new.pass) l) }
+        ensures counted { IfOk result (λ l. D.counted self.new.pass ≡ one_granted (D.counted self.old.pass)) }
+        ensures held { IfOk result (λ l. IsHeldBy (D.holder self.old.pass) (D.holder self.new.pass)) }
+        ensures leased { IfErr result (λ e. HasLeased (D.holder self.old.pass) (D.holder self.new.pass) e) }
+        ensures share { IfErr result (λ e. Evens (D.counted self.old.pass) (D.counted self.new.pass)) }
+        ensures ended { IfErr result (λ e. IsEndedFor D.home logged_in.now AtWait (D.counted self.old.pass) (D.counted self.new.pass) e) }
+        ensures failed { IfErr result (λ e. lacks_place e ≡ true → IsNotStarted D.home logged_in.now AtWait (D.counted self.old.pass) (D.counted self.new.pass) e) }
+    {
+        match self.take_in_turn() {
+            Grant::Queued => Err(Ending::Left),
+            Grant::Lend(link) => self.lent_link(logged_in, link),
+            Grant::Start {
+                number,
+                started_at,
+                evicted,
+            } => {
+                if let Some(link) = evicted {
+                    close_link(link);
+                }
+                self.new_link(logged_in, number, started_at)
+            }
+            Grant::Refused(refusal) => Err(Ending::Refused(refusal)),
+            Grant::Stranger => Err(Ending::Strange),
+        }
+    }
+
+    /// A link for the client: asks for it.
+    fn ask_link(&mut self, logged_in: &LoggedIn) -> Result<CleanLink<D::End>, Ending>
+        requires logged_in { IsLoggedIn logged_in.now }
+        requires here { IsSome (D.holder self.old.pass).client }
+        requires none { (D.holder self.old.pass).lease ≡ None }
+        requires unrefused { (D.holder self.old.pass).refused ≡ None }
+        ensures linked { IfOk result (λ l. IsLinked D.home logged_in.now (D.holder self.new.pass) l) }
+        ensures counted { IfOk result (λ l. D.counted self.new.pass ≡ one_granted (one_other (D.counted self.old.pass))) }
+        ensures held { IfOk result (λ l. IsHeldBy (D.holder self.old.pass) (D.holder self.new.pass)) }
+        ensures leased { IfErr result (λ e. HasLeased (D.holder self.old.pass) (D.holder self.new.pass) e) }
+        ensures share { IfErr result (λ e. Evens (D.counted self.old.pass) (D.counted self.new.pass)) }
+        ensures ended { IfErr result (λ e. IsEndedFor D.home logged_in.now AtAsking (D.counted self.old.pass) (D.counted self.new.pass) e) }
+        ensures failed { IfErr result (λ e. lacks_place e ≡ true → IsNotStarted D.home logged_in.now AtAsking (D.counted self.old.pass) (D.counted self.new.pass) e) }
+    {
+        match self.desk.ask(&mut self.pass, &logged_in.key) {
+            Asked::Queued(_) => self.take_link(logged_in),
+            Asked::Refused(refusal) => Err(Ending::Refused(refusal)),
+            Asked::Memory => Err(Ending::Memory),
+            Asked::Stranger => Err(Ending::Strange),
+        }
+    }
+
+    /// Whether the client, whose link its server had no place for, may ask again: once a link of its pool has come back or gone. Until then
+    /// it waits, for as long as a client may for its link, from its coming on.
+    fn may_ask_again(&mut self, logged_in: &LoggedIn, ending: &Ending) -> bool
+        requires here { IsSome (D.holder self.old.pass).client }
+        ensures counted { D.counted self.new.pass ≡ D.counted self.old.pass }
+        ensures holder { D.holder self.new.pass ≡ D.holder self.old.pass }
+    {
+        let seconds = logged_in.login.settings().query_wait_timeout();
+        for _ in 0..MAX_TURNS {
+            match self
+                .desk
+                .await_place(&mut self.pass, &logged_in.key, self.visit.since, seconds)
+            {
+                Place::Free => {
+                    if let Some(note) = asking_note(logged_in, ending) {
+                        self.note(&note);
+                    }
+                    return true;
+                }
+                Place::Nowhere => return false,
+                Place::Waits => {
+                    if self.gate.client_has_left() {
+                        return false;
+                    }
+                }
+            }
+        }
+        false
+    }
+
+    /// A link for the client, which asks again as long as its server has no place for one and others of its pool are lent.
+    fn link(&mut self, logged_in: &LoggedIn) -> Result<CleanLink<D::End>, Ending>
+        requires logged_in { IsLoggedIn logged_in.now }
+        requires here { IsSome (D.holder self.old.pass).client }
+        requires none { (D.holder self.old.pass).lease ≡ None }
+        requires unrefused { (D.holder self.old.pass).refused ≡ None }
+        ensures linked { IfOk result (λ l. IsLinked D.home logged_in.now (D.holder self.new.pass) l) }
+        ensures counted { IfOk result (λ l. IsGrantedAtLast D.home logged_in.now (D.counted self.old.pass) (D.counted self.new.pass)) }
+        ensures held { IfOk result (λ l. IsHeldBy (D.holder self.old.pass) (D.holder self.new.pass)) }
+        ensures leased { IfErr result (λ e. HasLeased (D.holder self.old.pass) (D.holder self.new.pass) e) }
+        ensures share { IfErr result (λ e. Evens (D.counted self.old.pass) (D.counted self.new.pass)) }
+        ensures ended { IfErr result (λ e. IsUnlinkedAtLast D.home logged_in.now (D.counted self.old.pass) (D.counted self.new.pass) e) }
+    {
+        for _ in 0..MAX_TURNS {
+            match self.ask_link(logged_in) {
+                Ok(link) => return Ok(link),
+                Err(ending) => {
+                    if !lacks_place(&ending) {
+                        return Err(ending);
+                    }
+                    if !self.may_ask_again(logged_in, &ending) {
+                        return Err(ending);
+                    }
+                }
+            }
+        }
+        Err(Ending::Left)
+    }
+
+    /// Serves a client that is through its login over a link, if it is granted one.
+    pub(crate) fn lease<C: ClientEnd>(&mut self, client: C, logged_in: &LoggedIn) -> (C, Ending)
+        requires logged_in { IsLoggedIn logged_in.now }
+        requires here { IsSome (D.holder self.old.pass).client }
+        requires none { (D.holder self.old.pass).lease ≡ None }
+        requires unrefused { (D.holder self.old.pass).refused ≡ None }
+        ensures share { Evens (D.counted self.old.pass) (D.counted self.new.pass) }
+        ensures leased { HasLeased (D.holder self.old.pass) (D.holder self.new.pass) result.1 }
+        ensures ended { HasEndedAtLast D.home logged_in.now (D.counted self.old.pass) (D.counted self.new.pass) (C.facts client) (C.facts result.0) result.1 }
+    {
+        match self.link(logged_in) {
+            Ok(link) => self.over_link(client, logged_in, link),
+            Err(ending) => (client, ending),
+        }
     }
 }

@@ -1,22 +1,18 @@
-//! One client of a pool, from its first byte to its end, over any desk that lends links: as a value that is served turn by turn, and the
-//! loop over it.
+//! A worker that serves one client: from its first byte, over any desk that lends links, to its end.
 //!
-//! Public: `Serving`, which is where the client stands between two turns, and of which each `advance` makes one turn of one part; `Stage`
-//! and its parts, since the contracts name them; and `serve`, the loop over `advance` that waits at a gate between two turns, for
-//! `pool_run`, whose threads serve one client each. Free to change: which step stands in which module, and how a stage keeps what it
-//! needs, as long as each call of the desk stays one event.
+//! Public: `serve`, the contract of what one client is given, and `uselessness`, for the log. `pool_run` calls both. Free to change: which
+//! part of the work stands in which module, as long as each call of the desk stays one event.
 #![tactic(auto)]
 
-mod asking;
-mod caller;
-mod knocking;
+mod arriving;
+mod ending;
+mod final_message;
 mod leasing;
-mod logging_in;
+mod logged_in;
+mod noting;
+mod opening;
+mod relaying;
 mod returning;
+pub mod secrets;
 pub mod serve;
-pub mod serving;
-pub mod stage;
-mod starting;
-mod stopping;
-mod taking;
-mod telling;
+mod worker;

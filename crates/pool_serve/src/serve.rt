@@ -1,44 +1,255 @@
-//! One client, from its first byte to its end: the loop over its turns, which waits at a gate.
-ghost use Rattle.std.specs.Prelude.{◌≡◌, ◌⊎◌, [], None, false, true};
+//! One client, from its first byte to its end.
+ghost use Rattle.std.specs.Prelude.{◌≡◌, ◌⊎◌, IsSome, [], None, false, true};
 ghost use Rattle.ini_config.specs.Bounds.{AreWithinBounds};
 ghost use Rattle.login_core.specs.Dialogue.{AtFirst};
 ghost use Rattle.login_core.specs.Logins.{AwaitsPacket};
-ghost use Rattle.console_run.specs.Passing.{pass_of};
-ghost use Rattle.client_stays.specs.Cancels.{IsPassedOn};
-ghost use Rattle.client_stays.specs.Serving.{LetsIn};
-ghost use Rattle.client_stays.specs.Shares.{Settles};
-ghost use Rattle.client_stays.specs.Stays.{IsAllowed, IsAtConsole, IsOver, IsUntouched};
+ghost use Rattle.login_run.specs.Runs.{Arrived, Console, IsAllGiven, IsRun, IsSameLogin};
+ghost use Rattle.console_run.specs.Passing.{IsSameHolder, pass_of};
+ghost use Rattle.link_desk.specs.Passes.{after_cancel, cancelled_by};
+ghost use Rattle.pool_serve.specs.Cancels.{IsPassedOn};
+ghost use Rattle.pool_serve.specs.Again.{HasEndedAtLast};
+ghost use Rattle.pool_serve.specs.Causes.{AtArrival, AtAsking};
+ghost use Rattle.pool_serve.specs.Endings.{HasLeased, Traces, refusal_in};
+ghost use Rattle.pool_serve.specs.Serving.{HasStopped, IsLoggedIn, IsManaged, LetsIn};
+ghost use Rattle.pool_serve.specs.Shares.{Evens, Settles};
+ghost use Rattle.pool_serve.specs.Stays.{CameIn, IfManaged, IsAllowed, IsAtConsole, IsDismissed, IsOver, IsUntouched, ServesAs, StayedAtConsole, TracesAtLast};
 
-use crate::serving::Serving;
-use crate::stage::{Step, Until};
+use crate::ending::Ending;
+use crate::logged_in::LoggedIn;
+use crate::noting::{ending_note, named, note_cancel, note_end, note_login, own_key};
+use crate::worker::Worker;
+use console_run::console::serve_console;
+use link_desk::answers::{Arrival, Cancelled};
 use link_desk::desk::LinkDesk;
-use log_lines::notes::Visit;
+use log_lines::notes::{Note, Visit};
 use login_core::Login;
-use message_view::KeyWord;
+use login_laws::laws::{
+    bounded_rows_are_lawful, passed_keys_are_link_keys, passed_keys_are_of_their_rows,
+};
+use login_run::laws::{
+    cancelling_runs_have_asked, passed_runs_are_let_in, passed_runs_have_passed, runs_are_allowed,
+    runs_stand_at_pieces,
+};
+use login_run::{LoginRun, LoginTurn};
+use message_view::{KeyView, KeyWord};
 use relay_flow::buffers::Buffers;
-use server_end::gate::{Gate, Ready};
+use server_end::gate::Gate;
 use server_end::{ClientEnd, ServerEnd};
 use std::alloc::Global;
-use time_limits::MAX_TURNS;
+use time_limits::{CLIENT_TURNS, MAX_TURNS};
 
-/// Both ends may be tried.
-const BOTH: Ready = Ready {
-    client: true,
-    server: true,
-};
-
-/// Waits at the gate for that; what may be tried then.
-fn wait<E: ServerEnd, G: Gate<E>>(gate: &mut G, until: Until) -> Ready {
-    match until {
-        // a desk decides meanwhile
-        Until::Both | Until::Desk => gate.turn(),
-        Until::Client => {
-            gate.turn_of_client();
-            BOTH
+/// Goes on with a login until it has arrived, is let in or is over; or until its time is over, whatever came meanwhile, or nothing has
+/// moved for so many turns of the client, if `most` says how many. A turn is taken only where nothing moved.
+// written into no caller: the stack of a thread would have room for it as long as its client is served
+#[inline(never)]
+fn drive_login<C: ClientEnd, E: ServerEnd, G: Gate<E>>(
+    alloc: Global,
+    run: &mut LoginRun<C>,
+    gate: &mut G,
+    most: Option<u32>,
+) -> LoginTurn
+    ensures login { IsSameLogin run.old run.new }
+    ensures stopped { HasStopped run.new result }
+{
+    let mut waited: u32 = 0;
+    for _ in 0..MAX_TURNS {
+        if gate.is_late() {
+            return LoginTurn::Over;
         }
-        Until::Link => {
-            gate.turn_of_link();
-            BOTH
+        match run.turn(alloc) {
+            LoginTurn::Again => waited = 0,
+            LoginTurn::Wait => match most {
+                None => {
+                    gate.turn();
+                }
+                Some(most) => {
+                    if most == waited {
+                        return LoginTurn::Over;
+                    }
+                    gate.turn_of_client();
+                    waited = waited.saturating_add(1);
+                }
+            },
+            turn => return turn,
+        }
+    }
+    LoginTurn::Over
+}
+
+/// Has what the client of this key word is at cancelled, if it has a lease: the cancel goes to the server of its link.
+fn pass_on<D: LinkDesk>(desk: &D, pass: &mut D::Pass, client: KeyView) -> Cancelled
+    ensures counted { D.counted pass.new ≡ after_cancel (D.counted pass.old) result }
+    ensures holder { D.holder pass.new ≡ cancelled_by client (D.holder pass.old) result }
+{
+    let cancelled = desk.cancel(pass, client);
+    match &cancelled {
+        Cancelled::Strike(strike) => desk.strike(pass, strike),
+        Cancelled::Nobody | Cancelled::Last => {}
+    }
+    cancelled
+}
+
+/// Ends a login that comes to no arrival: what it asked to be cancelled is passed on, or it is logged why it is over.
+// for the same reason as `drive_login`
+#[inline(never)]
+fn dismiss<C: ClientEnd, D: LinkDesk>(
+    desk: &D,
+    pass: D::Pass,
+    run: LoginRun<C>,
+    turn: LoginTurn,
+    visit: Visit,
+) -> (C, D::Pass)
+    ensures run { IsRun run }
+    ensures client { C.facts result.0 ≡ run.client }
+    ensures pass { IsDismissed turn (D.counted pass) (D.counted result.1) (D.holder pass) (D.holder result.1) }
+{
+    let mut pass = pass;
+    match turn {
+        LoginTurn::Cancel(key) => {
+            let cancelled = pass_on(desk, &mut pass, key);
+            note_cancel(desk, visit, cancelled);
+        }
+        _ => note_login(desk, &run, visit, None, false),
+    }
+    let (client, _, _) = run.finish();
+    (client, pass)
+}
+
+impl<'a, D: LinkDesk, G: Gate<D::End>> Worker<'a, D, G> {
+    /// Serves a client of the console, which is through its login.
+    // for the same reason as `drive_login`: a client that logs in waits without it
+    #[inline(never)]
+    fn manage<C: ClientEnd>(&mut self, run: LoginRun<C>, word: KeyWord) -> (C, Ending)
+        requires console { run.phase ≡ Console }
+        requires given { IsAllGiven run }
+        requires word { run.login.word ≡ word }
+        ensures tells { (C.facts result.0).tells ≡ run.client.tells }
+        ensures share { Evens (D.counted self.old.pass) (D.counted self.new.pass) }
+        ensures holder { IsSameHolder (D.holder self.old.pass) (D.holder self.new.pass) }
+        ensures traces { Traces AtAsking (D.counted self.old.pass) (D.counted self.new.pass) result.1 }
+        ensures refused { refusal_in result.1 ≡ None }
+        ensures came { CameIn D.home run.login (C.facts result.0) result.1 }
+        ensures managed { IfManaged result.1 (IsManaged run.login (pass_of (D.counted self.old.pass) (D.holder self.old.pass)) (pass_of (D.counted self.new.pass) (D.holder self.new.pass)) (C.facts result.0)) }
+        ensures serves { run.client.tells ≡ true → ServesAs D.home run.login (C.facts result.0) result.1 }
+    {
+        let key = own_key(&run);
+        let (client, login, _) = run.finish();
+        let who = named(self.visit, self.number, key.as_ref());
+        self.gate.limit(None);
+        self.desk.note(&who, &Note::LoggedIn);
+        let (client, last) = serve_console(
+            self.alloc,
+            self.desk,
+            &mut self.pass,
+            client,
+            login.settings(),
+            word,
+            &mut self.gate,
+            &who,
+        );
+        note_end(self.desk, &who, last);
+        (client, Ending::Managed(last))
+    }
+
+    /// Serves the client that has arrived. One whose time is over before it is through its login, or whose dialogue doesn't go on for
+    /// [`CLIENT_TURNS`] turns, is closed.
+    fn serve_arrived<C: ClientEnd>(&mut self, run: LoginRun<C>, word: KeyWord) -> (C, Ending)
+        requires settings { AreWithinBounds run.login.settings }
+        requires word { run.login.word ≡ word }
+        requires here { IsSome (D.holder self.old.pass).client }
+        requires none { (D.holder self.old.pass).lease ≡ None }
+        requires unrefused { (D.holder self.old.pass).refused ≡ None }
+        ensures tells { (C.facts result.0).tells ≡ run.client.tells }
+        ensures share { Evens (D.counted self.old.pass) (D.counted self.new.pass) }
+        ensures leased { HasLeased (D.holder self.old.pass) (D.holder self.new.pass) result.1 }
+        ensures traces { TracesAtLast D.home run.login AtAsking (D.counted self.old.pass) (D.counted self.new.pass) result.1 }
+        ensures came { CameIn D.home run.login (C.facts result.0) result.1 }
+        ensures managed { IfManaged result.1 (IsManaged run.login (pass_of (D.counted self.old.pass) (D.holder self.old.pass)) (pass_of (D.counted self.new.pass) (D.holder self.new.pass)) (C.facts result.0)) }
+        ensures serves { run.client.tells ≡ true → LetsIn D.home run.login → ServesAs D.home run.login (C.facts result.0) result.1 }
+    {
+        bounded_rows_are_lawful();
+        passed_keys_are_link_keys();
+        passed_keys_are_of_their_rows();
+        runs_are_allowed();
+        passed_runs_are_let_in();
+        passed_runs_have_passed();
+        let mut run = run;
+        match drive_login(self.alloc, &mut run, &mut self.gate, Some(CLIENT_TURNS)) {
+            LoginTurn::Passed => {}
+            LoginTurn::Console => return self.manage(run, word),
+            _ => {
+                let is_late = self.gate.is_late();
+                note_login(self.desk, &run, self.visit, self.number, is_late);
+                let (client, _, _) = run.finish();
+                return (client, Ending::Left);
+            }
+        }
+        let (client, login, key) = run.finish();
+        match key {
+            Some(key) => self.host(client, &LoggedIn { key, word, login }),
+            None => (client, Ending::Left),
+        }
+    }
+
+    /// Serves a client that is through its login, and logs how it came and went.
+    // likewise
+    #[inline(never)]
+    fn host<C: ClientEnd>(&mut self, client: C, logged_in: &LoggedIn) -> (C, Ending)
+        requires logged_in { IsLoggedIn logged_in.now }
+        requires here { IsSome (D.holder self.old.pass).client }
+        requires none { (D.holder self.old.pass).lease ≡ None }
+        requires unrefused { (D.holder self.old.pass).refused ≡ None }
+        ensures share { Evens (D.counted self.old.pass) (D.counted self.new.pass) }
+        ensures leased { HasLeased (D.holder self.old.pass) (D.holder self.new.pass) result.1 }
+        ensures ended { HasEndedAtLast D.home logged_in.now (D.counted self.old.pass) (D.counted self.new.pass) (C.facts client) (C.facts result.0) result.1 }
+    {
+        self.gate.limit(None);
+        self.note(&Note::LoggedIn);
+        let (client, ending) = self.lease(client, logged_in);
+        if let Some(note) = ending_note(logged_in, &ending) {
+            self.note(&note);
+        }
+        self.note(&Note::Closed);
+        (client, ending)
+    }
+
+    /// Lets a client that arrives in, and serves it. It may use the places beyond the limit that are its own.
+    fn admit<C: ClientEnd>(&mut self, run: LoginRun<C>, word: KeyWord) -> (C, Ending)
+        requires arrived { run.phase ≡ Arrived }
+        requires given { IsAllGiven run }
+        requires settings { AreWithinBounds run.login.settings }
+        requires word { run.login.word ≡ word }
+        requires free { (D.holder self.old.pass).client ≡ None }
+        requires none { (D.holder self.old.pass).lease ≡ None }
+        ensures tells { (C.facts result.0).tells ≡ run.client.tells }
+        ensures share { Settles (D.counted self.old.pass) (D.counted self.new.pass) }
+        ensures free { (D.holder self.new.pass).client ≡ None }
+        ensures none { (D.holder self.new.pass).lease ≡ None }
+        ensures refused { (D.holder self.new.pass).refused ≡ refusal_in result.1 }
+        ensures found { (D.holder self.new.pass).found ≡ (D.holder self.old.pass).found }
+        ensures struck { (D.holder self.new.pass).struck ≡ (D.holder self.old.pass).struck }
+        ensures traces { TracesAtLast D.home run.login AtArrival (D.counted self.old.pass) (D.counted self.new.pass) result.1 }
+        ensures came { CameIn D.home run.login (C.facts result.0) result.1 }
+        ensures managed { IfManaged result.1 (StayedAtConsole run.login (pass_of (D.counted self.old.pass) (D.holder self.old.pass)) (pass_of (D.counted self.new.pass) (D.holder self.new.pass)) (C.facts result.0)) }
+        ensures serves { run.client.tells ≡ true → LetsIn D.home run.login → ServesAs D.home run.login (C.facts result.0) result.1 }
+    {
+        runs_stand_at_pieces();
+        match self.arrive(&run) {
+            Arrival::Client(number) => {
+                self.number = Some(number);
+                self.own = own_key(&run);
+                let mut run = run;
+                run.go_on(self.alloc);
+                let served = self.serve_arrived(run, word);
+                self.desk.leave(&mut self.pass);
+                served
+            }
+            Arrival::Refused(refusal) => {
+                let named = named(self.visit, None, run.key());
+                self.desk.note(&named, &Note::Refused(refusal));
+                let (client, _, _) = run.finish();
+                (client, Ending::Refused(refusal))
+            }
         }
     }
 }
@@ -96,20 +307,38 @@ pub fn serve<C: ClientEnd, D: LinkDesk, G: Gate<D::End> + Drop>(
     ensures none { (D.holder result.1).lease ≡ None }
     ensures over { IsUntouched (D.counted pass) (D.counted result.1) (D.holder pass) (D.holder result.1) ⊎ IsPassedOn login (D.counted pass) (D.counted result.1) (D.holder pass) (D.holder result.1) (C.facts result.0) ⊎ IsOver D.home login (D.counted pass) (D.counted result.1) (D.holder pass) (D.holder result.1) (C.facts result.0) }
 {
+    runs_are_allowed();
+    cancelling_runs_have_asked();
     let mut gate = gate;
-    let mut serving = Serving::<C, D>::begin(pass, client, login, word, visit);
-    let mut ready = BOTH;
-    for _ in 0..MAX_TURNS {
-        match serving.advance(alloc, desk, ready, &mut gate, kept) {
-            Step::Again => ready = BOTH,
-            Step::Wait(until) => ready = wait(&mut gate, until),
-            Step::Apart => {
-                serving.apart(alloc, desk, &mut gate);
-                ready = BOTH;
-            }
-            Step::Over => return serving.finish(),
-        }
+    let mut run = LoginRun::new(client, login);
+    // a client that hasn't come yet takes no place in the book
+    match drive_login(alloc, &mut run, &mut gate, None) {
+        LoginTurn::Arrived => gate.know(),
+        turn => return dismiss(desk, pass, run, turn, visit),
     }
-    serving.stop(desk, &mut gate, kept);
-    serving.finish()
+    let mut worker = Worker {
+        alloc,
+        desk,
+        pass,
+        gate,
+        kept,
+        visit,
+        number: None,
+        own: None,
+    };
+    let (mut client, ending) = worker.admit(run, word);
+    ending
+        .into_final_message()
+        .tell(&mut client, &mut worker.gate);
+    let Worker {
+        alloc: _,
+        desk: _,
+        pass,
+        gate: _,
+        kept: _,
+        visit: _,
+        number: _,
+        own: _,
+    } = worker;
+    (client, pass)
 }

@@ -24,17 +24,17 @@ use std::time::Instant;
 use user_file::Users;
 
 /// A desk, the seat of the client whose worker calls it, and the settings and users of the client's arrival.
-pub struct WatchedDesk<R, D> {
+pub struct WatchedDesk<'a, R, D> {
     pub rt: R,
     pub alloc: Global,
-    pub desk: Arc<D>,
-    pub watch: Arc<Watch<R>>,
-    pub seat: Arc<Seat>,
+    pub desk: &'a D,
+    pub watch: &'a Watch<R>,
+    pub seat: &'a Seat,
     pub settings: Arc<Settings>,
     pub users: Arc<Users>,
 }
 
-impl<R: Drop, D: Drop> Drop for WatchedDesk<R, D> {
+impl<'a, R: Drop, D> Drop for WatchedDesk<'a, R, D> {
     fn drop(self) {
         let WatchedDesk {
             rt: _,
@@ -48,7 +48,7 @@ impl<R: Drop, D: Drop> Drop for WatchedDesk<R, D> {
     }
 }
 
-impl<R: Wait + Clock, D: LinkDesk> LinkDesk for WatchedDesk<R, D> {
+impl<'a, R: Wait + Clock, D: LinkDesk> LinkDesk for WatchedDesk<'a, R, D> {
     type End = D::End;
 
     type Pass = D::Pass;

@@ -1,10 +1,10 @@
 //! What a server says of its session while a lease lasts: an error, or a notice.
-ghost use Rattle.std.specs.Prelude.{◌≡◌, ◌≤◌, [], IfOk, length};
+ghost use Rattle.std.specs.Prelude.{◌≡◌, ◌≤◌, [], length};
 ghost use Rattle.relay_core.specs.LastNotes.{heard, is_note, kept};
 
+use arrayvec::ArrayVec;
 use frame_view::server::{ERROR_RESPONSE, NOTICE_RESPONSE};
 use relay_flow::flow::{Flow, Passed};
-use std::alloc::{AllocError, Global};
 use std::marker::Model;
 
 /// The longest message that is kept.
@@ -12,26 +12,17 @@ pub const MAX_NOTE: usize = 512;
 
 /// The last ErrorResponse or NoticeResponse that came over a link: the whole message. It is empty where none came, and where the last was
 /// longer than [`MAX_NOTE`]; of one that went on in parts it is the last part.
+#[derive(Drop)]
 pub struct LastNote {
-    // memory for the longest is there from the beginning: a relay takes none
-    message: Vec<u8>,
-}
-
-impl Drop for LastNote {
-    fn drop(self) {
-        let LastNote { message: _ } = self;
-    }
+    message: ArrayVec<u8, MAX_NOTE>,
 }
 
 impl Model for LastNote {
-    ghost use Rattle.std.specs.Prelude.{◌≤◌, List, vec_capacity, ℕ};
-    ghost use Rattle.relay_core.specs.declared.last_note.TheConstants.{MAX_NOTE};
+    ghost use Rattle.std.specs.Prelude.{List, ℕ};
 
     ghost Value = { List ℕ };
 
     ghost view = { λ n. n.message.items };
-
-    ghost invariant = { λ n. MAX_NOTE ≤ vec_capacity n.message };
 }
 
 fn is_note(kind: u8) -> bool
@@ -41,25 +32,22 @@ fn is_note(kind: u8) -> bool
 }
 
 impl LastNote {
-    /// None came. AllocError where there is no memory for the longest.
-    pub(crate) fn none(alloc: Global) -> Result<LastNote, AllocError>
-        ensures { IfOk result (λ n. n ≡ []) }
+    /// None came.
+    pub(crate) fn none() -> LastNote
+        ensures { result ≡ [] }
     {
-        Ok(LastNote {
-            message: Vec::with_capacity(alloc, MAX_NOTE)?,
-        })
+        LastNote {
+            message: ArrayVec::new(),
+        }
     }
 
-    /// This one, in place of the one before.
-    #[inline(never)]
-    fn keep(&mut self, message: &[u8])
-        ensures { self.new ≡ kept message.now }
+    /// This one.
+    pub(crate) fn of(message: &[u8]) -> LastNote
+        ensures { result ≡ kept message.now }
     {
-        self.message.clear();
-        if message.len() <= MAX_NOTE {
-            // it fails only where room is missing
-            let _ = self.message.extend_from_slice(message);
-        }
+        let mut note = LastNote::none();
+        let _ = note.message.try_extend_from_slice(message);
+        note
     }
 
     /// The message.
@@ -71,13 +59,13 @@ impl LastNote {
 }
 
 /// Keeps the frame that went on last, if it is an error or a notice.
-// written into its caller: rows come this way, and notes are rare
+// written into no caller, and neither is `of`: rows come this way, and notes are rare
 #[inline(always)]
 pub(crate) fn hear(last: &mut LastNote, flow: &Flow, passed: Passed)
     requires { passed.count ≤ length flow.now.held }
     ensures { last.new ≡ heard flow.now.held passed.count passed.kind last.old }
 {
     if is_note(passed.kind) {
-        last.keep(flow.last_held(passed.count));
+        *last = LastNote::of(flow.last_held(passed.count));
     }
 }

@@ -124,7 +124,7 @@ impl<C: ClientEnd, E: ServerEnd> Relay<C, E> {
     /// client is to be given the link's welcome first, with the client's own key word ([`welcome_over`]). `limit` is the greatest length
     /// of a frame, both ways (at least 4).
     ///
-    /// Memory for the welcome, for what the server says last, and for buffers where none are kept, is taken here, and none later. Where there is none, or the link has
+    /// Memory for the welcome, and for buffers where none are kept, is taken here, and none later. Where there is none, or the link has
     /// no welcome, both ends are handed back as they were.
     pub fn begin_over(
         alloc: Global,
@@ -149,9 +149,6 @@ impl<C: ClientEnd, E: ServerEnd> Relay<C, E> {
         let Ok(Buffers { to_link, to_client }) = Buffers::take_or_new(alloc, kept) else {
             return Err((client, link));
         };
-        let Ok(last_note) = LastNote::none(alloc) else {
-            return Err((client, link));
-        };
         Ok(Relay {
             client,
             link: link.lend(),
@@ -161,7 +158,7 @@ impl<C: ClientEnd, E: ServerEnd> Relay<C, E> {
             to_link: Flow::new(to_link, Side::Client, limit),
             to_client: Flow::new(to_client, Side::Server, limit),
             traffic: Traffic::new(),
-            last_note,
+            last_note: LastNote::none(),
             flags: Flags {
                 touched: false,
                 client_over: false,
@@ -235,8 +232,8 @@ impl<C: ClientEnd, E: ServerEnd> Relay<C, E> {
     }
 
     /// What the server said last, for the log: no contract tells which of its messages that is.
-    pub fn last_note(&self) -> &LastNote {
-        &self.last_note
+    pub fn last_note(&self) -> LastNote {
+        LastNote::of(self.last_note.message())
     }
 
     /// The lease ends: the client's end, and the link for what it is worth.
@@ -244,12 +241,11 @@ impl<C: ClientEnd, E: ServerEnd> Relay<C, E> {
         ensures client { C.facts result.0 ≡ self.client }
         ensures link { IsReturned E.standing self result.1 }
     {
-        let (client, link, _) = self.close_over(&mut None);
-        (client, link)
+        self.close_over(&mut None)
     }
 
-    /// The same, and what the server said last; its buffers are kept.
-    pub fn close_over(self, kept: &mut Option<Buffers>) -> (C, Returned<E>, LastNote)
+    /// The same; its buffers are kept.
+    pub fn close_over(self, kept: &mut Option<Buffers>) -> (C, Returned<E>)
         ensures client { C.facts result.0 ≡ self.client }
         ensures link { IsReturned E.standing self result.1 }
         ensures kept { IsSome kept.new }
@@ -265,7 +261,7 @@ impl<C: ClientEnd, E: ServerEnd> Relay<C, E> {
             to_link,
             to_client,
             traffic: _,
-            last_note,
+            last_note: _,
             flags,
             phase: _,
         } = self;
@@ -275,18 +271,14 @@ impl<C: ClientEnd, E: ServerEnd> Relay<C, E> {
         });
         if !flags.touched {
             if flags.link_over {
-                return (client, Returned::Gone(link, GoneCause::Lost), last_note);
+                return (client, Returned::Gone(link, GoneCause::Lost));
             }
-            return (client, Returned::Unused(link.clean()), last_note);
+            return (client, Returned::Unused(link.clean()));
         }
         if is_settled(verdict) {
-            return (client, Returned::Used(link.used()), last_note);
+            return (client, Returned::Used(link.used()));
         }
-        (
-            client,
-            Returned::Gone(link, GoneCause::Left(verdict)),
-            last_note,
-        )
+        (client, Returned::Gone(link, GoneCause::Left(verdict)))
     }
 
     /// The verdict on what went over the link.

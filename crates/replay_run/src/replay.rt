@@ -17,7 +17,7 @@ ghost use Rattle.replay_run.specs.Told.{Adds, IsKeyed, IsPastArrival, Says, Want
 
 use crate::standing::{KEY_WORD, catalogue, settings, users};
 use bytes::BytesMut;
-use credentials::{Credential, KeptExchange};
+use credentials::Credential;
 use login_core::laws::login_is_of_its_row;
 use login_core::{Authenticated, Login, LoginStep};
 use login_laws::laws::{passed_keys_are_link_keys, settings_rows_are_lawful};
@@ -106,8 +106,7 @@ fn served(
     let catalogue = Arc::try_clone(&service.catalogue)?;
     // the server asks for nothing
     let unasked = Secret::Md5([0; 32]);
-    let kept = KeptExchange::new(alloc);
-    let credential = Credential::new(&unasked, None, &KEY_WORD, 0, &kept);
+    let credential = Credential::new(alloc, &unasked, None, &KEY_WORD, 0);
     let server = MemoryServer::spared(
         alloc,
         catalogue,

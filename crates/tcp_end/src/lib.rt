@@ -24,7 +24,5 @@ pub mod destination;
 pub mod dial;
 pub mod gate;
 pub mod idle;
-pub mod many;
-pub mod post;
 mod socket;
 mod watched;

@@ -58,18 +58,4 @@ impl Watched {
         }
         is_own
     }
-
-    /// This poll tells of it no more.
-    pub(crate) fn leave(&self, poll: &Poll) {
-        let _ = poll.registry().deregister(&mut SourceFd(&self.fd));
-    }
-
-    /// This one does from now on, under this token. That it can't is ignored.
-    pub(crate) fn join(&mut self, poll: &Poll, token: Token) {
-        self.token = token;
-        let registered = poll
-            .registry()
-            .register(&mut SourceFd(&self.fd), token, Interest::READABLE);
-        self.notes.mind(registered.is_ok());
-    }
 }

@@ -1,35 +1,44 @@
-use Rattle.std.proofs.Common.{arith, sym, subst, ◌∙◌, List}
+use Rattle.std.proofs.Common.{sym, subst, ◌∙◌, List}
 use Rattle.std.proofs.lemmas.Result.{IfErr-weaker, IfOk-weaker}
 use Rattle.param_track.specs.KeptReports.{KeptReport}
 use Rattle.server_end.specs.Standing.{Standing}
 use Rattle.link_run.specs.declared.reset.ResetError.{ResetError}
+use Rattle.link_run.specs.declared.reset.ResetError.TheVariants.{Unexpected}
 use Rattle.link_run.specs.Dialogues.{IsResetDialogue}
 use Rattle.link_run.specs.Resets.{FailsBy}
-use Rattle.link_run.proofs.Resetting.{ends_by, paced_to_end}
+use Rattle.link_run.proofs.Resetting.{fails_by, ends_by, other_by}
 use Rattle.link_run.proofs.reset.reset_link.Goals as goal
 
-pub returns-in-Err-clause-faults : goal.returns-in-Err-clause-faults
-returns-in-Err-clause-faults g c =
+pub returns-in-Err-receive-clause-faults : goal.returns-in-Err-receive-clause-faults
+returns-in-Err-receive-clause-faults g c =
     let start = c.args.used.stands in
-    subst (λ (cause : ResetError). FailsBy c.args.used.reports start (g.E.ServerEnd.standing c.fail.result.end) c.args.turns cause) (sym c.fail.ensures.cause)
-    (subst (λ (end : Standing). FailsBy c.args.used.reports start end c.args.turns c.in-Err.cause) (sym c.fail.ensures.stands)
-    (subst (λ (kept : List KeptReport). FailsBy kept start c.turn.new.self.link c.args.turns c.in-Err.cause) c.loop.invariant.reports (c.in-Err.ensures.faults start c.args.turns c.loop.invariant.from)))
+    let kept = c.args.used.reports in
+    let failed = c.fail-in-Err-receive in
+    subst (λ (cause : ResetError). FailsBy kept start (g.E.ServerEnd.standing failed.result.end) c.args.turns cause) (sym failed.ensures.cause)
+    (subst (λ (end : Standing). FailsBy kept start end c.args.turns c.in-Err-receive.cause) (sym failed.ensures.stands)
+    (fails_by kept start c.send.new.self.link c.receive.new.self.link c.args.turns c.in-Err-receive.cause (c.send.ensures.keeps start c.loop.invariant.from).faults c.in-Err-receive.ensures.faults))
 
-pub returns-then-all-clause-whole : goal.returns-then-all-clause-whole
-returns-then-all-clause-whole g c =
+pub returns-in-All-clause-whole : goal.returns-in-All-clause-whole
+returns-in-All-clause-whole g c =
     let start = c.args.used.stands in
-    IfOk-weaker c.finish.result _ _ (λ l f. subst (λ (kept : List KeptReport). IsResetDialogue start kept l.stands l.reports) (c.in-Ok.ensures.reports ∙ c.loop.invariant.reports) (f start (c.in-Ok.ensures.keeps start c.loop.invariant.from))) c.finish.ensures.whole
+    let now = c.receive.ensures.keeps start (c.send.ensures.keeps start c.loop.invariant.from) in
+    let same = c.receive.ensures.reports ∙ c.send.ensures.reports ∙ c.loop.invariant.reports in
+    IfOk-weaker c.finish.result _ _ (λ l f. subst (λ (kept : List KeptReport). IsResetDialogue start kept l.stands l.reports) same (f start now)) c.finish.ensures.whole
 
-pub returns-then-all-clause-faults : goal.returns-then-all-clause-faults
-returns-then-all-clause-faults g c =
+pub returns-in-All-clause-faults : goal.returns-in-All-clause-faults
+returns-in-All-clause-faults g c =
     let start = c.args.used.stands in
-    IfErr-weaker c.finish.result _ _ (λ d f. subst (λ (kept : List KeptReport). FailsBy kept start (g.E.ServerEnd.standing d.end) c.args.turns d.cause) (c.in-Ok.ensures.reports ∙ c.loop.invariant.reports)
-    (ends_by start c.turn.new.self (g.E.ServerEnd.standing d.end) c.args.turns d.cause (c.in-Ok.ensures.keeps start c.loop.invariant.from) (c.in-Ok.ensures.all c.if-all.true) f)) c.finish.ensures.faults
+    let now = c.receive.ensures.keeps start (c.send.ensures.keeps start c.loop.invariant.from) in
+    let same = c.receive.ensures.reports ∙ c.send.ensures.reports ∙ c.loop.invariant.reports in
+    IfErr-weaker c.finish.result _ _ (λ d f. subst (λ (kept : List KeptReport). FailsBy kept start (g.E.ServerEnd.standing d.end) c.args.turns d.cause) same
+    (ends_by start c.receive.new.self (g.E.ServerEnd.standing d.end) c.args.turns d.cause now (c.read.ensures.all c.in-All.is) f)) c.finish.ensures.faults
 
-pub returns-then-all-clause-last : goal.returns-then-all-clause-last
-returns-then-all-clause-last g c =
-    IfOk-weaker c.finish.result _ _ (λ l e. paced_to_end c.args.used.stands l.stands c.loop.reset c.turn.new.self c.loop.counter (g.G.Gate.turns c.args.gate.now) (g.G.Gate.turns c.turn_of_link.new.self) (c.in-Ok.ensures.last c.if-all.true) c.loop.invariant.vain
-    (omega (arith, c.loop.invariant.writes, c.in-Ok.ensures.writes)) (omega (arith, c.turn_of_link.ensures, c.loop.invariant.taken)) e) c.finish.ensures.stands
-
-pub finish-requires : goal.finish-requires
-finish-requires g c = c.in-Ok.ensures.all c.if-all.true
+pub returns-in-Other-clause-faults : goal.returns-in-Other-clause-faults
+returns-in-Other-clause-faults g c =
+    let start = c.args.used.stands in
+    let now = c.receive.ensures.keeps start (c.send.ensures.keeps start c.loop.invariant.from) in
+    let same = c.receive.ensures.reports ∙ c.send.ensures.reports ∙ c.loop.invariant.reports in
+    let failed = c.fail-in-Other in
+    subst (λ (cause : ResetError). FailsBy c.args.used.reports start (g.E.ServerEnd.standing failed.result.end) c.args.turns cause) (sym failed.ensures.cause)
+    (subst (λ (kept : List KeptReport). FailsBy kept start (g.E.ServerEnd.standing failed.result.end) c.args.turns Unexpected) same
+    (other_by start c.receive.new.self (g.E.ServerEnd.standing failed.result.end) c.args.turns now failed.ensures.stands (c.read.ensures.other c.in-Other.is) (c.read.ensures.disturbed c.in-Other.is start now)))

@@ -1,18 +1,11 @@
-use Rattle.std.proofs.Common.{ap, sym, ◌∙◌}
+use Rattle.std.proofs.Common.{ap, ◌∙◌}
 use Rattle.ini_config.specs.declared.option_values.ConsoleStyle.{ConsoleStyle as Style}
-use Rattle.console_core.specs.declared.commands.Command.{Command}
-use Rattle.console_core.specs.declared.commands.Command.TheVariants as its
 use Rattle.monitor_core.specs.declared.asking.Request.TheVariants as request
-use Rattle.monitor_core.specs.Requests.{request_of, request_view}
+use Rattle.monitor_core.specs.Requests.{request_of}
 use Rattle.console_run.specs.Passing.{pass_of}
 use Rattle.console_run.specs.Exchanges.{asker}
 use Rattle.console_run.proofs.Reading.{looked_at}
 use Rattle.console_run.proofs.answering.Console.command.Goals as goal
-
-pub returns-in-Own-Show : goal.returns-in-Own-Show
-returns-in-Own-Show g c = looked_at (asker c.args.self.now.settings.now c.args.self.now.who.now.user.now) c.args.text.now (request.Own (its.Show c.in-Own-Show.table)) c.look.result
-    (pass_of (g.D.LinkDesk.counted c.args.pass.now) (g.D.LinkDesk.holder c.args.pass.now)) (pass_of (g.D.LinkDesk.counted c.look.new.pass) (g.D.LinkDesk.holder c.look.new.pass))
-    (ap (λ (command : Command). request_view (request.Own command)) (sym c.in-Own-Show.field-0-is) ∙ (c.in-Own-Show.ensures ∙ ap (λ (style : Style). request_of style c.args.text.now) c.console_style.ensures)) (λ action e. cc) (λ database e. cc) c.look.ensures
 
 pub returns-in-Asked : goal.returns-in-Asked
 returns-in-Asked g c = looked_at (asker c.args.self.now.settings.now c.args.self.now.who.now.user.now) c.args.text.now (request.Asked c.in-Asked.asked) c.look-in-Asked.result

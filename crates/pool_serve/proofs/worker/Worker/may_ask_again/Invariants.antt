@@ -1,0 +1,5 @@
+use Rattle.std.proofs.Common.{◌≡◌}
+use Rattle.pool_serve.proofs.worker.Worker.may_ask_again.Given as goal
+
+abbrev pub invariant-loop : goal.invariant-loop
+invariant-loop g l = (g.D.LinkDesk.counted l.self.pass ≡ g.D.LinkDesk.counted l.initial.self.pass) × (g.D.LinkDesk.holder l.self.pass ≡ g.D.LinkDesk.holder l.initial.self.pass)
